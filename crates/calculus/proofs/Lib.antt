@@ -1,0 +1,1 @@
+-- The laws of the definitions, for the crates above.
