@@ -4,3 +4,13 @@ pub mod Value
 pub mod Good
 pub mod Unifier
 pub mod Unify
+pub mod Redex
+pub mod Reduction
+pub mod Normal
+pub mod Answers
+pub mod Step
+pub mod Run
+pub mod Sexp
+pub mod Text
+pub mod Calls
+pub mod Known

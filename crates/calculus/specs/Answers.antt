@@ -1,0 +1,73 @@
+-- What each answer means: for every enum of src/ document 01's number and values for each case.
+use mathlib.Core.List.{List, [], _∷_}
+use Prim.Native.Nat.{ℕ}
+use Rattle.calculus.specs.declared.Refusal.{Refusal}
+use Rattle.calculus.specs.declared.Refusal.the-variants.{NoProgram, TooLong, NotCanonical, OutOfPlace, BadNumber, NoBinder, TooManyNodes, Incoherent, NoRoom, NoThread, Finished}
+use Rattle.calculus.specs.declared.Reason.{Reason}
+use Rattle.calculus.specs.declared.Reason.the-variants.{Ended, Steps, Room}
+use Rattle.calculus.specs.declared.Standing.{Standing}
+use Rattle.calculus.specs.declared.Standing.the-variants.{Answer, Stuck, Open}
+use Rattle.calculus.specs.declared.Counted.{Counted}
+use Rattle.calculus.specs.declared.Counted.the-variants as counted
+use Rattle.calculus.specs.declared.Stepped.{Stepped}
+use Rattle.calculus.specs.declared.Stepped.the-variants as stepped
+use Rattle.calculus.specs.declared.Ran.{Ran}
+use Rattle.calculus.specs.declared.Ran.the-variants as ran
+use Rattle.calculus.specs.declared.Stood.{Stood}
+use Rattle.calculus.specs.declared.Stood.the-variants as stood
+
+-- document 01's refusal numbers
+abbrev pub number : Refusal → ℕ
+number NoProgram = 1
+number TooLong = 2
+number NotCanonical = 3
+number OutOfPlace = 4
+number BadNumber = 5
+number NoBinder = 6
+number TooManyNodes = 7
+number Incoherent = 8
+number NoRoom = 9
+number NoThread = 10
+number Finished = 11
+
+-- the bytes of the atom that the program writes for a reason: `ended`, `steps`, `room`
+abbrev pub reasonBytes : Reason → List ℕ
+reasonBytes Ended = 101 ∷ 110 ∷ 100 ∷ 101 ∷ 100 ∷ []
+reasonBytes Steps = 115 ∷ 116 ∷ 101 ∷ 112 ∷ 115 ∷ []
+reasonBytes Room = 114 ∷ 111 ∷ 111 ∷ 109 ∷ []
+
+-- codes of our own, for callers in C; 0 stands for a refused call
+abbrev pub reasonCode : Reason → ℕ
+reasonCode Ended = 1
+reasonCode Steps = 2
+reasonCode Room = 3
+
+abbrev pub standingCode : Standing → ℕ
+standingCode Answer = 1
+standingCode Stuck = 2
+standingCode Open = 3
+
+-- What a call returns: document 01's refusal number, 0 where the call is accepted, and the values. A refusal has counts of 0.
+pub record Values : Type 0 where
+  pub refusal : ℕ
+  pub values : List ℕ
+
+-- how many nodes or bytes stand at the front of the output
+abbrev pub countedValues : Counted → Values
+countedValues (counted.Count n) = record { refusal = 0; values = n ∷ [] }
+countedValues (counted.Refused r) = record { refusal = number r; values = 0 ∷ [] }
+
+-- the nodes of the new program
+abbrev pub steppedValues : Stepped → Values
+steppedValues (stepped.Nodes n) = record { refusal = 0; values = n ∷ [] }
+steppedValues (stepped.Refused r) = record { refusal = number r; values = 0 ∷ [] }
+
+-- the reason's code, the nodes of the end program, the steps taken
+abbrev pub ranValues : Ran → Values
+ranValues (ran.Stopped r n k) = record { refusal = 0; values = reasonCode r ∷ n ∷ k ∷ [] }
+ranValues (ran.Refused r) = record { refusal = number r; values = 0 ∷ 0 ∷ 0 ∷ [] }
+
+-- the standing's code
+abbrev pub stoodValues : Stood → Values
+stoodValues (stood.Stands s) = record { refusal = 0; values = standingCode s ∷ [] }
+stoodValues (stood.Refused r) = record { refusal = number r; values = 0 ∷ [] }

@@ -1,0 +1,151 @@
+-- What each call owes, on every input: its refusals as an ordered list of (refusal, condition), and what an accepted call leaves.
+-- n is the node limit. A condition is said of the whole input; the first of the list that holds is given.
+use mathlib.Core.Path.{_≡_}
+use mathlib.Core.Logic.{_⊎_}
+use mathlib.Core.List.{List, [], _∷_, _++_}
+use mathlib.Core.Option.{none, some}
+use Prim.Native.Nat.{ℕ, _+_, _*_, _-_, _≤_, _<_}
+use lib.ListN.{length, take, drop, replicate}
+use Rattle.calculus.specs.declared.Refusal.{Refusal}
+use Rattle.calculus.specs.declared.Refusal.the-variants.{NoProgram, TooLong, NotCanonical, OutOfPlace, BadNumber, NoBinder, TooManyNodes, Incoherent, NoRoom, NoThread, Finished}
+use Rattle.calculus.specs.Tree.{term, program, Tree, preorder, nodes, threads, program-of}
+use Rattle.calculus.specs.Good.{InRange, Closed, Coherent, All}
+use Rattle.calculus.specs.Step.{Step, step, standing}
+use Rattle.calculus.specs.Run.{End, size, run, holds-nodes, room-of}
+use Rattle.calculus.specs.Sexp.{one, Sexp, bytes}
+use Rattle.calculus.specs.Text.{Raw, raw, raw-text, text}
+use Rattle.calculus.specs.Answers.{number, reasonCode, standingCode, Values}
+
+abbrev pub Refusals : Type 1
+Refusals = List (Refusal × Type 0)
+
+-- no condition of the list holds
+abbrev pub Accepts : Refusals → Type 0
+Accepts [] = Unit {0}
+Accepts (c ∷ cs) = (c .1 → ⊥) × Accepts cs
+
+-- r is that of the first condition of the list that holds
+abbrev pub Refuses : Refusals → Refusal → Type 0
+Refuses [] r = ⊥
+Refuses (c ∷ cs) r = (c .1 × (r ≡ c .0)) ⊎ ((c .1 → ⊥) × Refuses cs r)
+
+-- the front filled with exactly what is new, the rest as it was
+abbrev pub front : List ℕ → List ℕ → List ℕ
+front new old = new ++ drop (length new) old
+
+-- Reading a text b into an output.
+
+-- the text of a program, with every N in its range
+pub record TextOf (n : ℕ) (b : List ℕ) (p : Tree program) : Type 0 where
+  pub is : text p ≡ b
+  pub ranges : InRange n p
+
+abbrev pub read-refusals : ℕ → List ℕ → List ℕ → Refusals
+read-refusals n b out =
+    (TooLong, 12 * n < length b)
+    ∷ (NotCanonical, (s : Sexp one) → bytes s ≡ b → ⊥)
+    ∷ (OutOfPlace, (r : Raw program) → raw-text r ≡ b → ⊥)
+    ∷ (BadNumber, (p : Tree program) → TextOf n b p → ⊥)
+    ∷ (NoBinder, (p : Tree program) × (TextOf n b p × (Closed 0 p → ⊥)))
+    ∷ (TooManyNodes, (p : Tree program) × (TextOf n b p × (n < nodes p)))
+    ∷ (Incoherent, (p : Tree program) × (TextOf n b p × (All Coherent (threads p) → ⊥)))
+    ∷ (NoRoom, (p : Tree program) × (TextOf n b p × (holds-nodes out < nodes p)))
+    ∷ []
+
+-- what a read of b into `out` returns, and what it leaves there
+pub data Reads (n : ℕ) (b out : List ℕ) : Values → List ℕ → Type 0 where
+  read : (p : Tree program) → Accepts (read-refusals n b out) → TextOf n b p → Reads n b out (record { refusal = 0; values = nodes p ∷ [] }) (front (preorder p) out)
+  refused : (r : Refusal) → Refuses (read-refusals n b out) r → Reads n b out (record { refusal = number r; values = 0 ∷ [] }) out
+
+-- Calls on a table with its node count.
+
+-- the first `count` nodes of the table are the preorder of the program, with every number in its range
+pub record TableOf (n : ℕ) (table : List ℕ) (count : ℕ) (p : Tree program) : Type 0 where
+  pub counts : nodes p ≡ count
+  pub small : count ≤ n
+  pub within : 2 * count ≤ length table
+  pub is : take (2 * count) table ≡ preorder p
+  pub ranges : InRange n p
+
+-- the nodes before a thread's own: an alternative node for it, and one with each thread before
+unfoldable pub nodes-before : List (Tree term) → ℕ
+nodes-before [] = 1
+nodes-before (t ∷ ts) = 1 + nodes t + nodes-before ts
+
+module _ (n : ℕ) (table : List ℕ) (count : ℕ) where
+  abbrev pub no-program : Refusal × Type 0
+  no-program = (NoProgram, (p : Tree program) → TableOf n table count p → ⊥)
+
+  abbrev pub no-binder : Refusal × Type 0
+  no-binder = (NoBinder, (p : Tree program) × (TableOf n table count p × (Closed 0 p → ⊥)))
+
+  abbrev pub incoherent : Refusal × Type 0
+  incoherent = (Incoherent, (p : Tree program) × (TableOf n table count p × (All Coherent (threads p) → ⊥)))
+
+  -- what every table call asks first
+  abbrev pub table-refusals : Refusals
+  table-refusals = no-program ∷ no-binder ∷ incoherent ∷ []
+
+  abbrev pub write-refusals : List ℕ → Refusals
+  write-refusals out = table-refusals ++ ((NoRoom, (p : Tree program) × (TableOf n table count p × (length out < length (text p)))) ∷ [])
+
+  -- what a write into `out` returns, and what it leaves there
+  pub data Writes (out : List ℕ) : Values → List ℕ → Type 0 where
+    written : (p : Tree program) → Accepts (write-refusals out) → TableOf n table count p → Writes out (record { refusal = 0; values = length (text p) ∷ [] }) (front (text p) out)
+    not-written : (r : Refusal) → Refuses (write-refusals out) r → Writes out (record { refusal = number r; values = 0 ∷ [] }) out
+
+  -- the program there makes the step s
+  pub record StepsTo (p : Tree program) (s : Step) : Type 0 where
+    pub table-of : TableOf n table count p
+    pub steps : step (threads p) ≡ some s
+
+  abbrev pub step-refusals : List ℕ → Refusals
+  step-refusals out =
+      no-program
+      ∷ no-binder
+      ∷ (TooManyNodes, (p : Tree program) × ((s : Step) × (StepsTo p s × (All Coherent (threads p) × (n < size (s .result))))))
+      ∷ incoherent
+      ∷ (NoRoom, (p : Tree program) × ((s : Step) × (StepsTo p s × (holds-nodes out < size (s .result)))))
+      ∷ (Finished, (p : Tree program) × (TableOf n table count p × (step (threads p) ≡ none)))
+      ∷ []
+
+  -- what a single step into `out` returns, and what it leaves there
+  pub data StepsInto (out : List ℕ) : Values → List ℕ → Type 0 where
+    stepped : (p : Tree program) (s : Step) → Accepts (step-refusals out) → StepsTo p s → StepsInto out (record { refusal = 0; values = size (s .result) ∷ [] }) (front (preorder (program-of (s .result))) out)
+    not-stepped : (r : Refusal) → Refuses (step-refusals out) r → StepsInto out (record { refusal = number r; values = 0 ∷ [] }) out
+
+  abbrev pub run-refusals : List ℕ → Refusals
+  run-refusals work = table-refusals ++ ((NoRoom, holds-nodes work < count) ∷ [])
+
+  -- the end program followed by zeros
+  abbrev pub ended-table : List (Tree term) → List ℕ
+  ended-table ts = let l = preorder (program-of ts) in l ++ replicate (length table - length l) 0
+
+  abbrev pub ran-values : End (List (Tree term)) → Values
+  ran-values e = record { refusal = 0; values = reasonCode (e .reason) ∷ size (e .last) ∷ e .taken ∷ [] }
+
+  -- what a run with a work table returns, and what it leaves in the table and in the work table
+  pub data RunsWith (work : List ℕ) (limit : ℕ) : Values → List ℕ → List ℕ → Type 0 where
+    ran : (p : Tree program) → Accepts (run-refusals work) → TableOf n table count p →
+        RunsWith work limit (ran-values (run (room-of n table work) limit (threads p))) (ended-table (run (room-of n table work) limit (threads p) .last)) (replicate (length work) 0)
+    not-run : (r : Refusal) → Refuses (run-refusals work) r → RunsWith work limit (record { refusal = number r; values = 0 ∷ 0 ∷ 0 ∷ [] }) table work
+
+  abbrev pub thread-refusals : ℕ → Refusals
+  thread-refusals k = table-refusals ++ ((NoThread, (p : Tree program) × (TableOf n table count p × (length (threads p) ≤ k))) ∷ [])
+
+  -- the thread k of the program there, with the threads before and after it
+  pub record ThreadOf (k : ℕ) (t : Tree term) : Type 0 where
+    pub before : List (Tree term)
+    pub after : List (Tree term)
+    pub table-of : TableOf n table count (program-of (before ++ (t ∷ after)))
+    pub place : length before ≡ k
+
+  -- what the standing call returns
+  pub data StandsAt (k : ℕ) : Values → Type 0 where
+    stands : (t : Tree term) → Accepts (thread-refusals k) → ThreadOf k t → StandsAt k (record { refusal = 0; values = standingCode (standing t) ∷ [] })
+    not-stood : (r : Refusal) → Refuses (thread-refusals k) r → StandsAt k (record { refusal = number r; values = 0 ∷ [] })
+
+  -- the part that the thread call hands back: from the number `start` of the table on, these numbers; empty exactly when the standing call refuses
+  pub data PartAt (k : ℕ) : ℕ → List ℕ → Type 0 where
+    part : (t : Tree term) → Accepts (thread-refusals k) → (o : ThreadOf k t) → PartAt k (2 * nodes-before (o .before)) (preorder t)
+    no-part : (start : ℕ) (r : Refusal) → Refuses (thread-refusals k) r → PartAt k start []
