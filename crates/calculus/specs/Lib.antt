@@ -9,6 +9,7 @@ pub mod Reduction
 pub mod Normal
 pub mod Answers
 pub mod Step
+pub mod Choice
 pub mod Run
 pub mod Sexp
 pub mod Text
