@@ -1,6 +1,7 @@
 -- The laws of the definitions, for the crates above.
 pub mod Ends
 pub mod Refusals
+pub mod Alls
 pub mod Preorders
 pub mod Decimals
 pub mod Bytes
@@ -8,6 +9,14 @@ pub mod Texts
 pub mod Substitutes
 pub mod Bindings
 pub mod Unifiers
+pub mod Counting
+pub mod PutIns
+pub mod Textbook
+pub mod Redexes
+pub mod Normals
+pub mod Steps
+pub mod Preservation
 pub mod Machines
 pub mod Runs
 pub mod Exclusions
+pub mod Outcomes

@@ -148,4 +148,4 @@ module _ (n : ℕ) (table : List ℕ) (count : ℕ) where
   -- the part that the thread call hands back: from the number `start` of the table on, these numbers; empty exactly when the standing call refuses
   pub data PartAt (k : ℕ) : ℕ → List ℕ → Type 0 where
     part : (t : Tree term) → Accepts (thread-refusals k) → (o : ThreadOf k t) → PartAt k (2 * nodes-before (o .before)) (preorder t)
-    no-part : (start : ℕ) (r : Refusal) → Refuses (thread-refusals k) r → PartAt k start []
+    no-part : (r : Refusal) → Refuses (thread-refusals k) r → PartAt k 0 []
