@@ -99,9 +99,9 @@ reader-accepts n a b h =
       (
         (λ f. f (list (encode raw-empty)) refl),
         (
-          (λ f. f raw-empty refl),
+          (λ f. f .1 .1 raw-empty refl),
           (
-            (λ f. f empty (record { is = refl; ranges = tt })),
+            (λ f. f .1 .1 empty (record { is = refl; ranges = tt })),
             (
               (λ k. k .1 .1 (rw (only-empty (k .0) (k .1 .0)) tt)),
               (

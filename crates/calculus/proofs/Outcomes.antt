@@ -11,7 +11,7 @@ use Rattle.calculus.specs.Step.{Step, step, standing}
 use Rattle.calculus.specs.Run.{End, size, run, room-of}
 use Rattle.calculus.specs.Text.{text}
 use Rattle.calculus.specs.Answers.{number, standingCode, Values}
-use Rattle.calculus.specs.Calls.{Refusals, Accepts, Refuses, front, read-refusals, TextOf, Reads, read, refused, TableOf, write-refusals, Writes, written, not-written, StepsTo, step-refusals, StepsInto, stepped, not-stepped, run-refusals, ended-table, ran-values, RunsWith, ran, not-run, thread-refusals, ThreadOf, StandsAt, stands, not-stood, nodes-before, PartAt, part, no-part}
+use Rattle.calculus.specs.Calls.{Refusals, Accepts, Refuses, front, read-refusals, TextOf, Reads, read, refused, TableOf, write-refusals, Writes, written, not-written, StepsTo, step-refusals, StepsInto, stepped, not-stepped, run-refusals, end-table, ran-values, RunsWith, ran, not-run, thread-refusals, ThreadOf, StandsAt, stands, not-stood, nodes-before, PartAt, part, no-part}
 use Rattle.calculus.proofs.Preorders.{preorder-injective, threads-of-program}
 use Rattle.calculus.proofs.Texts.{text-injective}
 use Rattle.calculus.proofs.Refusals.{accepted-not-refused, one-refusal}
@@ -69,7 +69,7 @@ module _ {n : ℕ} {table : List ℕ} {count : ℕ} where
   pub runs-once : {work : List ℕ} {limit : ℕ} {v w : Values} {o u x y : List ℕ} → RunsWith n table count work limit v o x → RunsWith n table count work limit w u y → (v ≡ w) × (o ≡ u) × (x ≡ y)
   runs-once {work} {limit} (ran p a t) (ran q c k) =
       let e : run (room-of n table work) limit (threads p) ≡ run (room-of n table work) limit (threads q) = ap (λ (x : Tree program). run (room-of n table work) limit (threads x)) (table-of-unique t k) in
-      (ap (ran-values n table count) e, ap (λ (x : End (List (Tree term))). ended-table n table count (x .last)) e, refl)
+      (ap ran-values e, ap (λ (x : End (List (Tree term))). end-table table (x .last)) e, refl)
   runs-once {work} (ran p a t) (not-run r g) = absurd (accepted-not-refused (run-refusals n table count work) r a g)
   runs-once {work} (not-run r g) (ran p a t) = absurd (accepted-not-refused (run-refusals n table count work) r a g)
   runs-once {work} (not-run r g) (not-run q h) = (ap (λ (x : Refusal). record { refusal = number x; values = 0 ∷ 0 ∷ 0 ∷ [] }) (one-refusal (run-refusals n table count work) r q g h), refl, refl)

@@ -1,4 +1,5 @@
--- What each answer means: for every enum of src/ document 01's number and values for each case.
+-- What each case of every enum of src/ stands for: document 01's refusal numbers, atoms and values; for reasons and standings, which it does not number,
+-- codes of our own.
 use mathlib.Core.List.{List, [], _∷_}
 use Prim.Native.Nat.{ℕ}
 use Rattle.calculus.specs.declared.Refusal.{Refusal}

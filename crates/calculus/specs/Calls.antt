@@ -44,8 +44,8 @@ abbrev pub read-refusals : ℕ → List ℕ → List ℕ → Refusals
 read-refusals n b out =
     (TooLong, 12 * n < length b)
     ∷ (NotCanonical, (s : Sexp one) → bytes s ≡ b → ⊥)
-    ∷ (OutOfPlace, (r : Raw program) → raw-text r ≡ b → ⊥)
-    ∷ (BadNumber, (p : Tree program) → TextOf n b p → ⊥)
+    ∷ (OutOfPlace, (s : Sexp one) × ((bytes s ≡ b) × ((r : Raw program) → raw-text r ≡ b → ⊥)))
+    ∷ (BadNumber, (r : Raw program) × ((raw-text r ≡ b) × ((p : Tree program) → TextOf n b p → ⊥)))
     ∷ (NoBinder, (p : Tree program) × (TextOf n b p × (Closed 0 p → ⊥)))
     ∷ (TooManyNodes, (p : Tree program) × (TextOf n b p × (n < nodes p)))
     ∷ (Incoherent, (p : Tree program) × (TextOf n b p × (All Coherent (threads p) → ⊥)))
@@ -67,10 +67,17 @@ pub record TableOf (n : ℕ) (table : List ℕ) (count : ℕ) (p : Tree program)
   pub is : take (2 * count) table ≡ preorder p
   pub ranges : InRange n p
 
--- the nodes before a thread's own: an alternative node for it, and one with each thread before
+-- the nodes before a thread's own, from the threads before it: an alternative node for it, and one with each of them
 unfoldable pub nodes-before : List (Tree term) → ℕ
 nodes-before [] = 1
 nodes-before (t ∷ ts) = 1 + nodes t + nodes-before ts
+
+-- the end program followed by zeros, as long as the table
+abbrev pub end-table : List ℕ → List (Tree term) → List ℕ
+end-table table ts = let l = preorder (program-of ts) in l ++ replicate (length table - length l) 0
+
+abbrev pub ran-values : End (List (Tree term)) → Values
+ran-values e = record { refusal = 0; values = reasonCode (e .reason) ∷ size (e .last) ∷ e .taken ∷ [] }
 
 module _ (n : ℕ) (table : List ℕ) (count : ℕ) where
   abbrev pub no-program : Refusal × Type 0
@@ -94,7 +101,8 @@ module _ (n : ℕ) (table : List ℕ) (count : ℕ) where
     written : (p : Tree program) → Accepts (write-refusals out) → TableOf n table count p → Writes out (record { refusal = 0; values = length (text p) ∷ [] }) (front (text p) out)
     not-written : (r : Refusal) → Refuses (write-refusals out) r → Writes out (record { refusal = number r; values = 0 ∷ [] }) out
 
-  -- the program there makes the step s
+  -- The program there makes the step s. Where its threads are closed and coherent that is document 003's rewriting which document 01 picks (`Chosen` of
+  -- specs/Choice.antt), and there is none exactly where no rule applies: proofs/Steps.antt
   pub record StepsTo (p : Tree program) (s : Step) : Type 0 where
     pub table-of : TableOf n table count p
     pub steps : step (threads p) ≡ some s
@@ -117,17 +125,10 @@ module _ (n : ℕ) (table : List ℕ) (count : ℕ) where
   abbrev pub run-refusals : List ℕ → Refusals
   run-refusals work = table-refusals ++ ((NoRoom, holds-nodes work < count) ∷ [])
 
-  -- the end program followed by zeros
-  abbrev pub ended-table : List (Tree term) → List ℕ
-  ended-table ts = let l = preorder (program-of ts) in l ++ replicate (length table - length l) 0
-
-  abbrev pub ran-values : End (List (Tree term)) → Values
-  ran-values e = record { refusal = 0; values = reasonCode (e .reason) ∷ size (e .last) ∷ e .taken ∷ [] }
-
   -- what a run with a work table returns, and what it leaves in the table and in the work table
   pub data RunsWith (work : List ℕ) (limit : ℕ) : Values → List ℕ → List ℕ → Type 0 where
     ran : (p : Tree program) → Accepts (run-refusals work) → TableOf n table count p →
-        RunsWith work limit (ran-values (run (room-of n table work) limit (threads p))) (ended-table (run (room-of n table work) limit (threads p) .last)) (replicate (length work) 0)
+        RunsWith work limit (ran-values (run (room-of n table work) limit (threads p))) (end-table table (run (room-of n table work) limit (threads p) .last)) (replicate (length work) 0)
     not-run : (r : Refusal) → Refuses (run-refusals work) r → RunsWith work limit (record { refusal = number r; values = 0 ∷ 0 ∷ 0 ∷ [] }) table work
 
   abbrev pub thread-refusals : ℕ → Refusals

@@ -19,6 +19,7 @@ decimal n = digits (suc n) n
 pub data Form : Type 0 where
   one many : Form
 
+-- an atom's bytes are numbers of any size here; those of a text are below 256 by its type
 pub data Sexp : Form → Type 0 where
   atom : List ℕ → Sexp one
   list : Sexp many → Sexp one
