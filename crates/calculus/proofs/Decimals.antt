@@ -97,7 +97,8 @@ number-of-decimal = by-tenths (λ n. number-from 0 (decimal n) ≡ n) (λ n h. r
 pub decimal-injective : (n m : ℕ) → decimal n ≡ decimal m → n ≡ m
 decimal-injective n m e = sym (number-of-decimal n) ∙ ap number-of e ∙ number-of-decimal m
 
-decimal-more : (k d : ℕ) → 0 < k → 48 ≤ d → d < 58 → decimal (10 * k + (d - 48)) ≡ decimal k ++ (d ∷ [])
+-- one digit more
+pub decimal-more : (k d : ℕ) → 0 < k → 48 ≤ d → d < 58 → decimal (10 * k + (d - 48)) ≡ decimal k ++ (d ∷ [])
 decimal-more k d h low high =
     let n : ℕ = 10 * k + (d - 48) in
     let tenth : n / 10 ≡ k = omega arith in
