@@ -2,7 +2,10 @@
 use mathlib.Core.Path.{_≡_, refl}
 use mathlib.Core.Option.{bind}
 use lib.ListN.{length}
-use Rattle.calculus.specs.Tree.{preorder, nodes, threads, program-of, uses, stored}
+use mathlib.Core.List.{[], _∷_}
+use Rattle.calculus.specs.declared.Refusal.the-variants.{NotCanonical}
+use Rattle.calculus.specs.Report.{report, refusal-report}
+use Rattle.calculus.specs.Tree.{guard, unif, bound, con, fresh, two, preorder, nodes, threads, program-of, uses, stored}
 use Rattle.calculus.specs.Put.{put-in, substitute}
 use Rattle.calculus.specs.Value.{single, structure, value}
 use Rattle.calculus.specs.Unify.{one, all, shape, takes, carry, meet, solve, unify}
@@ -26,3 +29,12 @@ starred-are-twelve = refl
 pub others-right : AllRight others
 unfolding others found expected ascii preorder nodes threads program-of uses stored put-in substitute single structure value one all shape takes carry meet solve unify plug own redexes least-from variable-for location-for rewriting first step-thread step finished answer standing run-of next-program run digits decimal bytes encode raw raw-text text bind
 others-right = refl
+
+-- document 01's two examples of what the program writes
+pub report-example : report (run 2048 10000 (fresh (two guard (two unif (bound 0) (con 1)) (bound 0)) ∷ [])) ≡ ascii "(5:ended1:3((1:c1:1)))"
+unfolding report ascii preorder nodes threads program-of uses stored put-in substitute single structure value one all shape takes carry meet solve unify plug own redexes least-from variable-for location-for rewriting first step-thread step run-of next-program run digits decimal bytes encode raw bind
+report-example = refl
+
+pub refusal-example : refusal-report NotCanonical ≡ ascii "(7:refused1:3)"
+unfolding refusal-report ascii bytes decimal digits
+refusal-example = refl

@@ -14,4 +14,5 @@ pub mod Run
 pub mod Sexp
 pub mod Text
 pub mod Calls
+pub mod Report
 pub mod Known
