@@ -1,0 +1,215 @@
+-- What the checks of a table show together, and which part the thread call hands back.
+use mathlib.Core.Path.{_≡_, refl, sym, ap, _∙_}
+use mathlib.Core.Logic.{inl, inr}
+use mathlib.Core.Bool.{Bool, true, false}
+use mathlib.Core.List.{List, [], _∷_, _++_}
+use Prim.Native.Nat.{ℕ, _+_, _*_, _-_, _≤_, _<_}
+use native.Mathlib.Omega.{arith}
+use native.Mathlib.Decide.{decLe}
+use lib.ListN.{length, take, drop, take-append-drop, length-append}
+use Rattle.calculus.specs.declared.Refusal.{Refusal}
+use Rattle.calculus.specs.declared.Refusal.the-variants as refusal
+use Rattle.calculus.specs.Tree.{term, program, Tree, nodes, threads, program-of}
+use Rattle.calculus.specs.Good.{Closed, Coherent, All}
+use Rattle.calculus.specs.Answers.{number}
+use Rattle.calculus.specs.Calls.{Refusals, Accepts, Refuses, TableOf, nodes-before, table-refusals, ThreadOf, PartAt, part, no-part}
+use Rattle.calculus.proofs.Alls.{all-each, all-with}
+use Rattle.calculus.proofs.Outcomes.{table-of-unique}
+use Rattle.calculus.proofs.Preorders.{nodes-positive, threads-of-program}
+use Rattle.calculus.proofs.Substitutes.{impossible}
+use Rattle.table.specs.Nodes.{Stands}
+use Rattle.table.specs.Checks.{Walks, nothing, loose, scoped, OneBody, ProgramIn, ThreadsAgree, checkedNumber, Checks, admitted, refused}
+use Rattle.table.specs.Threads.{ProgramAt, PlaceOf, from, missing}
+use Rattle.table.specs.declared.Walked.{Walked}
+use Rattle.table.specs.declared.Walked.the-variants.{NoProgram, Loose, Scoped}
+use Rattle.table.specs.declared.Checked.{Checked}
+use Rattle.table.specs.declared.Checked.the-variants.{Admitted, Refused}
+use Rattle.table.specs.declared.Place.{Place}
+use Rattle.table.specs.declared.Place.the-variants.{From, Missing}
+use Rattle.table.proofs.Trees.{one-tree, see, moved, ends-in, own-part}
+use Rattle.table.proofs.Scans.{whole-walks}
+use Rattle.table.proofs.Scopes.{Within, scoped-closed, closed-scoped, within-threads, threads-within}
+
+-- every refusal has a number
+positive : (r : Refusal) → 0 < number r
+positive refusal.NoProgram = omega arith
+positive refusal.TooLong = omega arith
+positive refusal.NotCanonical = omega arith
+positive refusal.OutOfPlace = omega arith
+positive refusal.BadNumber = omega arith
+positive refusal.NoBinder = omega arith
+positive refusal.TooManyNodes = omega arith
+positive refusal.Incoherent = omega arith
+positive refusal.NoRoom = omega arith
+positive refusal.NoThread = omega arith
+positive refusal.Finished = omega arith
+
+-- A longer list of refusals: refused early, refused late, accepted.
+module _ (ds : Refusals) where
+  pub refuses-early : (cs : Refusals) (r : Refusal) → Refuses cs r → Refuses (cs ++ ds) r
+  refuses-early [] r h = absurd h
+  refuses-early (c ∷ cs) r (inl h) = inl h
+  refuses-early (c ∷ cs) r (inr h) = inr (h .0, refuses-early cs r (h .1))
+
+  pub refuses-late : (cs : Refusals) (r : Refusal) → Accepts cs → Refuses ds r → Refuses (cs ++ ds) r
+  refuses-late [] r a h = h
+  refuses-late (c ∷ cs) r a h = inr (a .0, refuses-late cs r (a .1) h)
+
+  pub accepts-both : (cs : Refusals) → Accepts cs → Accepts ds → Accepts (cs ++ ds)
+  accepts-both [] a b = b
+  accepts-both (c ∷ cs) a b = (a .0, accepts-both cs (a .1) b)
+
+module _ {n : ℕ} {t : List ℕ} {count : ℕ} where
+  -- a program that is the first nodes of a table stands at its front
+  pub table-stands : {p : Tree program} → TableOf n t count p → Stands t 0 p
+  table-stands h = record { rest = drop (2 * count) t; here = sym (take-append-drop (2 * count) t) ∙ ap (λ (l : List ℕ). l ++ drop (2 * count) t) (h .is) }
+
+  -- no program has 0 nodes
+  pub none-fits : n ≡ 0 → Checks n t count 1
+  none-fits e = refused refusal.NoProgram (inl ((λ p h. let c = h .counts in let s = h .small in omega (arith, nodes-positive p)), refl))
+
+  -- a walk finds no program
+  pub none-walked : {w : Bool} {r : Walked} → r ≡ NoProgram → Walks n w t count r → Checks n t count 1
+  none-walked e (nothing f) = refused refusal.NoProgram (inl (f, refl))
+  none-walked e (loose p h f) = impossible (cc)
+  none-walked e (scoped p h f) = impossible (cc)
+
+  -- the walk that counts every binder finds an index without one
+  pub loose-walked : {r : Walked} → r ≡ Loose → Walks n false t count r → Checks n t count 6
+  loose-walked e (nothing f) = impossible (cc)
+  loose-walked e (loose p h f) = refused refusal.NoBinder (inr ((λ g. g p h), inl ((p, (h, λ c. f (closed-scoped 0 p c))), refl)))
+  loose-walked e (scoped p h f) = impossible (cc)
+
+-- a closed program stands there
+pub record ClosedIn (n : ℕ) (t : List ℕ) (count : ℕ) : Type 0 where
+  pub program-there : Tree program
+  pub table-of : TableOf n t count program-there
+  pub closed : Closed 0 program-there
+
+module _ {n : ℕ} {t : List ℕ} {count : ℕ} where
+  -- it finds none
+  pub closed-walked : {r : Walked} → r ≡ Scoped → Walks n false t count r → ClosedIn n t count
+  closed-walked e (nothing f) = impossible (cc)
+  closed-walked e (loose p h f) = impossible (cc)
+  closed-walked e (scoped p h f) = record { program-there = p; table-of = h; closed = scoped-closed 0 p f }
+
+module _ {n : ℕ} {t : List ℕ} {count : ℕ} (c : ClosedIn n t count) where
+  abbrev this : Tree program
+  this = c .program-there
+
+  -- every program that stands there is this one
+  closed-all : (p : Tree program) × (TableOf n t count p × (Closed 0 p → ⊥)) → ⊥
+  closed-all q = q .1 .1 (rw (table-of-unique (q .1 .0) (c .table-of)) (c .closed))
+
+  there : ((p : Tree program) → TableOf n t count p → ⊥) → ⊥
+  there f = f this (c .table-of)
+
+  coherent-all : All Coherent (threads this) → (p : Tree program) × (TableOf n t count p × (All Coherent (threads p) → ⊥)) → ⊥
+  coherent-all a q = q .1 .1 (rw (table-of-unique (q .1 .0) (c .table-of)) a)
+
+  pub program-in : ProgramIn n t
+  program-in = let h = c .table-of in record { program-there = this; stands = table-stands h; small = omega (arith, h .counts, h .small); ranges = h .ranges }
+
+  incoherent : (All Coherent (threads this) → ⊥) → Checks n t count 8
+  incoherent f = refused refusal.Incoherent (inr (there, inr (closed-all, inl ((this, (c .table-of, f)), refl))))
+
+  -- the walk that counts only the binders inside an allocated abstraction finds an index without one
+  pub not-within : {r : Walked} → (r ≡ Scoped → ⊥) → Walks n true t count r → Checks n t count 8
+  not-within g (nothing f) = absurd (there f)
+  not-within g (loose p h f) =
+      incoherent (λ a. f (rw (table-of-unique h (c .table-of)) (threads-within this (c .closed) (all-each Coherent Within (threads this) (λ x k. k .within) a))))
+  not-within g (scoped p h f) = absurd (g refl)
+
+  -- two allocated abstractions of a thread with one location differ
+  pub not-equal : {b : Bool} → b ≡ false → ThreadsAgree t b → Checks n t count 8
+  not-equal e a = incoherent (λ k. a .differ e this (table-stands (c .table-of)) (all-each Coherent OneBody (threads this) (λ x h. h .equal) k))
+
+  within-all : {r : Walked} → r ≡ Scoped → Walks n true t count r → All Within (threads this)
+  within-all e (nothing f) = impossible (cc)
+  within-all e (loose p h f) = impossible (cc)
+  within-all e (scoped p h f) = rw (table-of-unique (c .table-of) h) (within-threads p f)
+
+  -- neither
+  pub all-coherent : {r : Walked} {b : Bool} → r ≡ Scoped → Walks n true t count r → b ≡ true → ThreadsAgree t b → Checks n t count 0
+  all-coherent e w d a =
+      let one = a .agree d this (table-stands (c .table-of)) in
+      admitted (there, (closed-all, (coherent-all (all-with (λ x k o. record { within = k; equal = o }) (threads this) (within-all e w) one), tt)))
+
+-- The part of a thread.
+
+-- an admitted program stands there
+pub record AdmittedIn (n : ℕ) (t : List ℕ) (count : ℕ) : Type 0 where
+  pub accepts : Accepts (table-refusals n t count)
+  pub program-there : Tree program
+  pub table-of : TableOf n t count program-there
+
+-- the thread k stands from the node i to before the node e
+pub record PartIn (n : ℕ) (t : List ℕ) (count k i e : ℕ) : Type 0 where
+  pub order : i ≤ e
+  pub fits : 2 * e ≤ length t
+  pub holds : PartAt n t count k (2 * i) (take (2 * e - 2 * i) (drop (2 * i) t))
+
+-- the last refusal of the thread call
+abbrev no-thread : ℕ → List ℕ → ℕ → ℕ → Refusals
+no-thread n t count k = (refusal.NoThread, (p : Tree program) × (TableOf n t count p × (length (threads p) ≤ k))) ∷ []
+
+-- a thread stands behind those before it
+behind-threads : {t : List ℕ} {x : Tree term} (before after : List (Tree term)) (i : ℕ) → Stands t i (program-of (before ++ (x ∷ after))) → Stands t (i + nodes-before before) x
+unfolding program-of nodes-before
+behind-threads [] after i h = see _ h .parts-stand .0
+behind-threads (y ∷ before) after i h = moved (omega arith) (behind-threads before after (i + 1 + nodes y) (see _ h .parts-stand .1))
+
+module _ {n : ℕ} {t : List ℕ} {count : ℕ} where
+  -- where it is not so that no program stands there, one does: a walk finds it
+  found : (((p : Tree program) → TableOf n t count p → ⊥) → ⊥) → (p : Tree program) × TableOf n t count p
+  found f = elim (decLe count n) [ yes small ↦ elim (decLe (2 * count) (length t)) [ yes fits ↦ go (whole-walks n false t count small fits) | no h ↦ absurd (f (λ p k. h (k .within))) ] | no h ↦ absurd (f (λ p k. h (k .small))) ]
+    where
+      go : {r : Walked} → Walks n false t count r → (p : Tree program) × TableOf n t count p
+      go (nothing g) = absurd (f g)
+      go (loose p h g) = (p, h)
+      go (scoped p h g) = (p, h)
+
+  pub admitted-there : {r : Checked} → r ≡ Admitted → Checks n t count (checkedNumber r) → AdmittedIn n t count
+  admitted-there {r} e h = go h (ap checkedNumber e)
+    where
+      go : {m : ℕ} → Checks n t count m → m ≡ 0 → AdmittedIn n t count
+      go (admitted a) e = let p = found (a .0) in record { accepts = a; program-there = p .0; table-of = p .1 }
+      go (refused q g) e = absurd (omega (arith, positive q))
+
+  -- the check refuses
+  pub part-refused : {r : Checked} {q : Refusal} (k : ℕ) → r ≡ Refused q → Checks n t count (checkedNumber r) → PartAt n t count k 0 []
+  part-refused {r} {q} k e h = go h (ap checkedNumber e)
+    where
+      go : {m : ℕ} → Checks n t count m → m ≡ number q → PartAt n t count k 0 []
+      go (admitted a) e = absurd (omega (arith, positive q))
+      go (refused s g) e = no-part s (refuses-early (no-thread n t count k) (table-refusals n t count) s g)
+
+module _ {n : ℕ} {t : List ℕ} {count : ℕ} (a : AdmittedIn n t count) where
+  pub admitted-program : ProgramAt t
+  admitted-program = record { program-there = a .program-there; stands = table-stands (a .table-of) }
+
+  this-one : {p : Tree program} → Stands t 0 p → TableOf n t count p
+  this-one {p} h = rw (one-tree p (a .program-there) h (table-stands (a .table-of))) (a .table-of)
+
+  -- there are not so many threads
+  pub part-missing : {k : ℕ} {r : Place} → r ≡ Missing → PlaceOf t k r → PartAt n t count k 0 []
+  part-missing e (from before x after h l) = impossible (cc)
+  part-missing {k} e (missing p h l) = no-part refusal.NoThread (refuses-late (no-thread n t count k) (table-refusals n t count) refusal.NoThread (a .accepts) (inl ((p, (this-one h, l)), refl)))
+
+  -- a thread's own nodes
+  pub part-there : {k i e : ℕ} {r : Place} → r ≡ From i e → PlaceOf t k r → PartIn n t count k i e
+  part-there {k} {i} {e} q (from before x after h l) =
+      let start : nodes-before before ≡ i = cc in
+      let end : nodes-before before + nodes x ≡ e = cc in
+      let w : Stands t i x = moved (omega arith) (behind-threads before after 0 h) in
+      let o : ThreadOf n t count k x = record { before = before; after = after; table-of = this-one h; place = l } in
+      let enough : (p : Tree program) × (TableOf n t count p × (length (threads p) ≤ k)) → ⊥ =
+      λ m. omega (arith, m .1 .1, length-append before (x ∷ after), ap length (ap threads (table-of-unique (m .1 .0) (o .table-of)) ∙ threads-of-program (before ++ (x ∷ after)))) in
+      let d : 2 * e - 2 * i ≡ 2 * nodes x = omega arith in
+      let b = ends-in w in
+      record {
+        order = omega arith;
+        fits = omega arith;
+        holds = rw (d, own-part w, ← start) (part x (accepts-both (no-thread n t count k) (table-refusals n t count) (a .accepts) (enough, tt)) o);
+      }
+  part-there q (missing p h l) = impossible (cc)

@@ -1,0 +1,5 @@
+pub mod Nodes
+pub mod Checks
+pub mod Threads
+pub mod Marks
+pub mod Pending

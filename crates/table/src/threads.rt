@@ -1,0 +1,54 @@
+// Where threads stand, and the call that hands a thread's part back.
+ghost use mathlib.Core.Path.{_≡_};
+ghost use Prim.Native.Nat.{_+_, _*_};
+ghost use lib.ListN.{length};
+ghost use Rattle.table.specs.Checks.{in-force};
+ghost use Rattle.table.specs.Threads.{ProgramAt, PlaceOf, ThreadPart};
+use crate::Checked;
+use crate::Place;
+use crate::check::check;
+use crate::nodes::end_of;
+use crate::nodes::node_at;
+
+// Where thread k of the program at the front stands.
+pub fn place_of(t: &[u16], k: usize) -> Place
+    requires { ⌜ ProgramAt (now t) ⌝ }
+    ensures { λ r. ⌜ PlaceOf (now (t .entry)) k r ⌝ }
+{
+    let mut at: usize = 0;
+    let mut i: usize = 0;
+    loop {
+        let n = node_at(t, at);
+        if n.kind == 0 {
+            return Place::Missing;
+        }
+        let start = at + 1;
+        let end = end_of(t, start);
+        if i == k {
+            return Place::From(start, end);
+        }
+        at = end;
+        i += 1;
+    }
+}
+
+// The thread's own part of the table, no copy: its term's nodes, without the alternative node. Empty exactly when the standing call refuses.
+pub fn thread<'a>(
+    t: &'a [u16],
+    count: usize,
+    k: usize,
+    limit: usize,
+    scratch: &mut [u16],
+) -> &'a [u16]
+    ensures { λ r. ⌜ ThreadPart (in-force limit (length (now (scratch .entry)))) (now (t .entry)) count k (t .entry .ptr .0) (t .entry .ptr .1) (r .ptr .0) (r .ptr .1) (now r) ⌝ }
+{
+    let Checked::Admitted = check(t, count, limit, scratch) else {
+        return &t[0..0];
+    };
+    let Place::From(start, end) = place_of(t, k) else {
+        return &t[0..0];
+    };
+    let a = 2 * start;
+    let e = 2 * end;
+    &t[a..e]
+}
