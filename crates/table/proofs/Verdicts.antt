@@ -5,12 +5,11 @@ use mathlib.Core.Bool.{Bool, true, false}
 use mathlib.Core.List.{List, [], _∷_, _++_}
 use Prim.Native.Nat.{ℕ, _+_, _*_, _-_, _≤_, _<_}
 use native.Mathlib.Omega.{arith}
-use native.Mathlib.Decide.{decLe}
 use lib.ListN.{length, take, drop, take-append-drop, length-append}
 use Rattle.calculus.specs.declared.Refusal.{Refusal}
 use Rattle.calculus.specs.declared.Refusal.the-variants as refusal
 use Rattle.calculus.specs.Tree.{term, program, Tree, nodes, threads, program-of}
-use Rattle.calculus.specs.Good.{Closed, Coherent, All}
+use Rattle.calculus.specs.Good.{Closed, Coherent, All, Good}
 use Rattle.calculus.specs.Answers.{number}
 use Rattle.calculus.specs.Calls.{Refusals, Accepts, Refuses, TableOf, nodes-before, table-refusals, ThreadOf, PartAt, part, no-part}
 use Rattle.calculus.proofs.Alls.{all-each, all-with}
@@ -27,7 +26,6 @@ use Rattle.table.specs.declared.Checked.the-variants.{Admitted, Refused}
 use Rattle.table.specs.declared.Place.{Place}
 use Rattle.table.specs.declared.Place.the-variants.{From, Missing}
 use Rattle.table.proofs.Trees.{one-tree, see, moved, ends-in, own-part}
-use Rattle.table.proofs.Scans.{whole-walks}
 use Rattle.table.proofs.Scopes.{Within, scoped-closed, closed-scoped, within-threads, threads-within}
 
 -- every refusal has a number
@@ -44,17 +42,20 @@ positive refusal.NoRoom = omega arith
 positive refusal.NoThread = omega arith
 positive refusal.Finished = omega arith
 
--- A longer list of refusals: refused early, refused late, accepted.
+-- A list of refusals with more behind it.
 module _ (ds : Refusals) where
+  -- what refuses first still does
   pub refuses-early : (cs : Refusals) (r : Refusal) → Refuses cs r → Refuses (cs ++ ds) r
   refuses-early [] r h = absurd h
   refuses-early (c ∷ cs) r (inl h) = inl h
   refuses-early (c ∷ cs) r (inr h) = inr (h .0, refuses-early cs r (h .1))
 
+  -- what the first accept, the others can refuse
   pub refuses-late : (cs : Refusals) (r : Refusal) → Accepts cs → Refuses ds r → Refuses (cs ++ ds) r
   refuses-late [] r a h = h
   refuses-late (c ∷ cs) r a h = inr (a .0, refuses-late cs r (a .1) h)
 
+  -- or accept too
   pub accepts-both : (cs : Refusals) → Accepts cs → Accepts ds → Accepts (cs ++ ds)
   accepts-both [] a b = b
   accepts-both (c ∷ cs) a b = (a .0, accepts-both cs (a .1) b)
@@ -107,6 +108,7 @@ module _ {n : ℕ} {t : List ℕ} {count : ℕ} (c : ClosedIn n t count) where
   coherent-all : All Coherent (threads this) → (p : Tree program) × (TableOf n t count p × (All Coherent (threads p) → ⊥)) → ⊥
   coherent-all a q = q .1 .1 (rw (table-of-unique (q .1 .0) (c .table-of)) a)
 
+  -- it is small and in range
   pub program-in : ProgramIn n t
   program-in = let h = c .table-of in record { program-there = this; stands = table-stands h; small = omega (arith, h .counts, h .small); ranges = h .ranges }
 
@@ -133,7 +135,9 @@ module _ {n : ℕ} {t : List ℕ} {count : ℕ} (c : ClosedIn n t count) where
   pub all-coherent : {r : Walked} {b : Bool} → r ≡ Scoped → Walks n true t count r → b ≡ true → ThreadsAgree t b → Checks n t count 0
   all-coherent e w d a =
       let one = a .agree d this (table-stands (c .table-of)) in
-      admitted (there, (closed-all, (coherent-all (all-with (λ x k o. record { within = k; equal = o }) (threads this) (within-all e w) one), tt)))
+      let k : All Coherent (threads this) = all-with (λ x k o. record { within = k; equal = o }) (threads this) (within-all e w) one in
+      let h = c .table-of in
+      admitted this h (record { small = omega (arith, h .counts, h .small); ranges = h .ranges; closed = c .closed; coherent = k }) (there, (closed-all, (coherent-all k, tt)))
 
 -- The part of a thread.
 
@@ -142,6 +146,7 @@ pub record AdmittedIn (n : ℕ) (t : List ℕ) (count : ℕ) : Type 0 where
   pub accepts : Accepts (table-refusals n t count)
   pub program-there : Tree program
   pub table-of : TableOf n t count program-there
+  pub good : Good n program-there
 
 -- the thread k stands from the node i to before the node e
 pub record PartIn (n : ℕ) (t : List ℕ) (count k i e : ℕ) : Type 0 where
@@ -160,31 +165,28 @@ behind-threads [] after i h = see _ h .parts-stand .0
 behind-threads (y ∷ before) after i h = moved (omega arith) (behind-threads before after (i + 1 + nodes y) (see _ h .parts-stand .1))
 
 module _ {n : ℕ} {t : List ℕ} {count : ℕ} where
-  -- where it is not so that no program stands there, one does: a walk finds it
-  found : (((p : Tree program) → TableOf n t count p → ⊥) → ⊥) → (p : Tree program) × TableOf n t count p
-  found f = elim (decLe count n) [ yes small ↦ elim (decLe (2 * count) (length t)) [ yes fits ↦ go (whole-walks n false t count small fits) | no h ↦ absurd (f (λ p k. h (k .within))) ] | no h ↦ absurd (f (λ p k. h (k .small))) ]
-    where
-      go : {r : Walked} → Walks n false t count r → (p : Tree program) × TableOf n t count p
-      go (nothing g) = absurd (f g)
-      go (loose p h g) = (p, h)
-      go (scoped p h g) = (p, h)
-
+  -- the check admits: a good program stands there
   pub admitted-there : {r : Checked} → r ≡ Admitted → Checks n t count (checkedNumber r) → AdmittedIn n t count
   admitted-there {r} e h = go h (ap checkedNumber e)
     where
       go : {m : ℕ} → Checks n t count m → m ≡ 0 → AdmittedIn n t count
-      go (admitted a) e = let p = found (a .0) in record { accepts = a; program-there = p .0; table-of = p .1 }
+      go (admitted p h g a) e = record { accepts = a; program-there = p; table-of = h; good = g }
       go (refused q g) e = absurd (omega (arith, positive q))
 
-  -- the check refuses
-  pub part-refused : {r : Checked} {q : Refusal} (k : ℕ) → r ≡ Refused q → Checks n t count (checkedNumber r) → PartAt n t count k 0 []
-  part-refused {r} {q} k e h = go h (ap checkedNumber e)
+  -- the check refuses: the first condition that holds has the answer's number
+  pub refused-there : {r : Checked} {q : Refusal} → r ≡ Refused q → Checks n t count (checkedNumber r) → (s : Refusal) × ((number s ≡ number q) × Refuses (table-refusals n t count) s)
+  refused-there {q} e h = go h (ap checkedNumber e)
     where
-      go : {m : ℕ} → Checks n t count m → m ≡ number q → PartAt n t count k 0 []
-      go (admitted a) e = absurd (omega (arith, positive q))
-      go (refused s g) e = no-part s (refuses-early (no-thread n t count k) (table-refusals n t count) s g)
+      go : {m : ℕ} → Checks n t count m → m ≡ number q → (s : Refusal) × ((number s ≡ number q) × Refuses (table-refusals n t count) s)
+      go (admitted p h k a) e = absurd (omega (arith, positive q))
+      go (refused s g) e = (s, (e, g))
+
+  -- then there is no part
+  pub part-refused : {r : Checked} {q : Refusal} (k : ℕ) → r ≡ Refused q → Checks n t count (checkedNumber r) → PartAt n t count k 0 []
+  part-refused k e h = let s = refused-there e h in no-part (s .0) (refuses-early (no-thread n t count k) (table-refusals n t count) (s .0) (s .1 .1))
 
 module _ {n : ℕ} {t : List ℕ} {count : ℕ} (a : AdmittedIn n t count) where
+  -- it stands at the front
   pub admitted-program : ProgramAt t
   admitted-program = record { program-there = a .program-there; stands = table-stands (a .table-of) }
 
