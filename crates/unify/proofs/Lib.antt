@@ -1,0 +1,13 @@
+-- Laws of the classes.
+pub mod Rooted
+pub mod Places
+pub mod Roots
+pub mod Squares
+pub mod Descents
+pub mod Meetings
+pub mod SetUps
+pub mod Shortens
+pub mod Goals
+pub mod SolvedTrees
+pub mod Passes
+pub mod Unified

@@ -1,0 +1,5 @@
+pub mod Classes
+pub mod Descent
+pub mod Meeting
+pub mod Sizing
+pub mod Cells
