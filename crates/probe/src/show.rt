@@ -1,0 +1,118 @@
+// What is written.
+ghost use mathlib.Core.Path.{_≡_};
+ghost use Rattle.calculus.specs.Answers.{number};
+ghost use Rattle.table.specs.Checks.{checkedNumber};
+use calculus::Refusal;
+use csexp::Item;
+use libc::STDOUT_FILENO;
+use table::Checked;
+
+// Document 01's number of a refusal.
+pub fn refusal_number(x: Refusal) -> u8
+    ensures { λ r. ⌜ r ≡ number x ⌝ }
+{
+    match x {
+        Refusal::NoProgram => 1,
+        Refusal::TooLong => 2,
+        Refusal::NotCanonical => 3,
+        Refusal::OutOfPlace => 4,
+        Refusal::BadNumber => 5,
+        Refusal::NoBinder => 6,
+        Refusal::TooManyNodes => 7,
+        Refusal::Incoherent => 8,
+        Refusal::NoRoom => 9,
+        Refusal::NoThread => 10,
+        Refusal::Finished => 11,
+    }
+}
+
+// The same of a check's answer, 0 where the table is admitted.
+pub fn checked_number(x: Checked) -> u8
+    ensures { λ r. ⌜ r ≡ checkedNumber x ⌝ }
+{
+    match x {
+        Checked::Admitted => 0,
+        Checked::Refused(r) => refusal_number(r),
+    }
+}
+
+pub fn byte(b: u8) {
+    let text = [b];
+    io::write_all(STDOUT_FILENO, &text);
+}
+
+pub fn decimal(n: usize) {
+    io::print_decimal(STDOUT_FILENO, n as u64);
+}
+
+pub fn newline() {
+    byte(b'\n');
+}
+
+// An answer that is one number.
+pub fn answer(letter: u8, n: usize) {
+    byte(letter);
+    byte(b' ');
+    decimal(n);
+    newline();
+}
+
+pub fn truth(letter: u8, is_true: bool) {
+    if is_true {
+        answer(letter, 1);
+    } else {
+        answer(letter, 0);
+    }
+}
+
+// A line that can't be read as a command.
+pub fn unread(letter: u8) {
+    byte(letter);
+    byte(b' ');
+    byte(b'?');
+    newline();
+}
+
+fn after_blank(n: u16) {
+    byte(b' ');
+    decimal(n as usize);
+}
+
+// Numbers, with a blank before each, or - where there are none.
+pub fn numbers(letter: u8, part: &[u16]) {
+    byte(letter);
+    if part.len() == 0 {
+        byte(b' ');
+        byte(b'-');
+    }
+    let mut i: usize = 0;
+    while i < part.len() {
+        after_blank(part[i]);
+        i += 1;
+    }
+    newline();
+}
+
+// An item, with a blank before it: a bracket, or place:length.
+pub fn item(x: Item) {
+    byte(b' ');
+    match x {
+        Item::Open => byte(b'('),
+        Item::Close => byte(b')'),
+        Item::Atom(place, n) => {
+            decimal(place);
+            byte(b':');
+            decimal(n);
+        }
+    }
+}
+
+pub fn cut() {
+    io::write_all(STDOUT_FILENO, b" cut\n");
+}
+
+pub fn bad(place: usize) {
+    io::write_all(STDOUT_FILENO, b" bad ");
+    decimal(place);
+    newline();
+}
