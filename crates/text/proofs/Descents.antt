@@ -1,0 +1,418 @@
+-- The items that the grammar asks for, what a descent keeps of the nodes that it passes, where it leads, and what that says of the whole text.
+use mathlib.Core.Path.{_≡_, refl, sym, ap, _∙_}
+use mathlib.Core.Bool.{Bool, true, false, _&&_, or-false, or-true}
+use mathlib.Core.List.{List, [], _∷_, _++_, append-assoc, append-nil, tail-eq-of-cons-eq}
+use Prim.Native.Nat.{ℕ, _+_, _*_, _/_, _≤_, _<_}
+use native.Mathlib.Omega.{arith}
+use lib.Dec.{eqb, leb}
+use borrow.Author.Tests.{eqb-true, le-leb, lt-leb}
+use lib.ListN.{length, getD, take, drop, length-append, length-drop}
+use lib.Seq.{append-snoc, drop-cons, drop-length, sets, sets-eq, length-take-le, take-at}
+use Rattle.calculus.specs.Sexp.{atom, list, nothing, bytes}
+use Rattle.calculus.specs.Tree.{program, Tree, nodes}
+use Rattle.calculus.specs.Calls.{TextOf}
+use Rattle.calculus.specs.Text.{Raw, raw-empty, encode, raw, raw-text, text}
+use Rattle.calculus.proofs.Decimals.{decimal-first}
+use Rattle.calculus.proofs.Bytes.{bytes-prefix, members-prefix}
+use Rattle.calculus.proofs.Texts.{raw-text-injective}
+use Rattle.calculus.proofs.Preorders.{preorder-length}
+use Rattle.csexp.specs.declared.Cursor.{Cursor}
+use Rattle.csexp.specs.declared.Item.{Item}
+use Rattle.csexp.specs.declared.Item.the-variants.{Open, Close, Atom}
+use Rattle.csexp.specs.Items.{opening, closing, of-atom, Begins, itemBytes, Placed}
+use Rattle.csexp.proofs.Closings.{Took}
+use Rattle.text.specs.declared.numbers.Number.the-variants.{Bad, Is}
+use Rattle.text.specs.Numbers.{NumberIs}
+use Rattle.text.specs.declared.parse.Met.{Met}
+use Rattle.text.specs.declared.parse.Descent.{Descent}
+use Rattle.text.specs.declared.parse.Descent.the-variants.{Out, To}
+use Rattle.text.specs.declared.Parsed.the-variants.{Out as Parsed-out, Bad as Parsed-bad, Loose, Nodes}
+use Rattle.text.specs.Reading.{Parses, out, bad, loose, of-nodes}
+use Rattle.text.specs.Descent.{Between, AtomBetween, Note, no-node, node-note, followed, number-note, note, Keeps, Noted, Goal, kind, number, bracket, one-term, members, Fill, spelled, noted, Fills, spelled-all, noted-all, Passes, Leads, Reads, Beyond, Ahead, Ready, Descends, Closed-behind}
+use Rattle.text.proofs.Grammar.{Row, tag, parts, tag-injective, followed-assoc, followed-none, followed-end, term-of, term-spelled, term-noted, made, Tagged, tagged, program-of, program-spelled, program-noted, member, note-read, note-unread, Told, told, treed}
+
+impossible : {A : Type 0} → _≡_ {A = ℕ} 0 1 → A
+impossible e = absurd (omega arith)
+
+-- Items.
+
+took-between : {s : List ℕ} {at next : ℕ} {i : Item} → Took s at i next → at < next → Between s at next (itemBytes s i)
+took-between t h = record { forward = h; within = t .within; here = t .here }
+
+no-bracket : (b r q : List ℕ) (k : ℕ) → k < 48 → bytes (atom b) ++ r ≡ k ∷ q → ⊥
+unfolding bytes
+no-bracket b r q k h e = decimal-first (length b) k _ q h (rw append-assoc at e)
+
+module _ {s : List ℕ} {at next : ℕ} where
+  -- a bracket is there
+  pub open-there : Took s at Open next → Between s at next (40 ∷ [])
+  open-there t = took-between t (omega (arith, t .placed))
+
+  pub close-there : Took s at Close next → Between s at next (41 ∷ [])
+  close-there t = took-between t (omega (arith, t .placed))
+
+  -- an atom is there
+  pub atom-there : {place m : ℕ} → Took s at (Atom place m) next → AtomBetween s at place m next
+  atom-there t = record { fits = omega (arith, t .placed, t .within); between = took-between t (omega (arith, t .placed)) }
+
+  -- another item is there, so no bracket k
+  pub not-bracket : {i : Item} (k : ℕ) → k < 48 → Took s at i next → (i ≡ Open → k ≡ 40 → ⊥) → (i ≡ Close → k ≡ 41 → ⊥) → (r : List ℕ) → drop at s ≡ k ∷ r → ⊥
+  not-bracket {i} k h t f g r e = go i t f g
+    where
+      go : (i : Item) → Took s at i next → (i ≡ Open → k ≡ 40 → ⊥) → (i ≡ Close → k ≡ 41 → ⊥) → ⊥
+      go Open t f g = f refl (cc (t .here))
+      go Close t f g = g refl (cc (t .here))
+      go (Atom p m) t f g = no-bracket (take m (drop p s)) (drop next s) r k h (sym (t .here) ∙ e)
+
+  -- no atom
+  pub not-atom : {i : Item} → Took s at i next → ((p m : ℕ) → i ≡ Atom p m → ⊥) → (b r : List ℕ) → drop at s ≡ bytes (atom b) ++ r → ⊥
+  not-atom {i} t f b r e = go i t f
+    where
+      go : (i : Item) → Took s at i next → ((p m : ℕ) → i ≡ Atom p m → ⊥) → ⊥
+      go Open t f = no-bracket b r (drop next s) 40 (omega arith) (sym e ∙ t .here)
+      go Close t f = no-bracket b r (drop next s) 41 (omega arith) (sym e ∙ t .here)
+      go (Atom p m) t f = f p m refl
+
+-- no item is there: no bracket and no atom
+pub no-open : (l r : List ℕ) → (Begins l → ⊥) → l ≡ 40 ∷ r → ⊥
+no-open l r f e = f (record { item = 40 ∷ []; rest = r; is-item = opening; here = e })
+
+pub no-close : (l r : List ℕ) → (Begins l → ⊥) → l ≡ 41 ∷ r → ⊥
+no-close l r f e = f (record { item = 41 ∷ []; rest = r; is-item = closing; here = e })
+
+pub no-atom : (l b r : List ℕ) → (Begins l → ⊥) → l ≡ bytes (atom b) ++ r → ⊥
+no-atom l b r f e = f (record { item = bytes (atom b); rest = r; is-item = of-atom b; here = e })
+
+module _ {s : List ℕ} {at mid : ℕ} (o : Between s at mid (40 ∷ [])) where
+  behind-open : {l : List ℕ} → drop at s ≡ 40 ∷ l → drop mid s ≡ l
+  behind-open e = tail-eq-of-cons-eq (sym (o .here) ∙ e)
+
+  -- behind the bracket is no atom
+  pub no-tag : ((b r : List ℕ) → drop mid s ≡ bytes (atom b) ++ r → ⊥) → (k : ℕ) (r : List ℕ) → drop at s ≡ 40 ∷ bytes (atom (k ∷ [])) ++ r → ⊥
+  no-tag f k r e = f (k ∷ []) r (behind-open e)
+
+  module _ {place m next : ℕ} (a : AtomBetween s mid place m next) where
+    -- a tag is there: an opening bracket and an atom of one byte
+    pub tag-there : m ≡ 1 → (at + 2 ≤ next) × Between s at next (40 ∷ bytes (atom (getD s place 0 ∷ [])))
+    tag-there e =
+        let byte : take m (drop place s) ≡ getD s place 0 ∷ [] = rw (e, drop-cons s place 0 (omega arith)) in
+        (omega arith, record { forward = omega arith; within = omega arith; here = o .here ∙ rw (← byte) (ap (λ (l : List ℕ). 40 ∷ l) (a .between .here)) })
+
+    -- the atom has another length
+    pub long-tag : (m ≡ 1 → ⊥) → (k : ℕ) (r : List ℕ) → drop at s ≡ 40 ∷ bytes (atom (k ∷ [])) ++ r → ⊥
+    long-tag f k r e =
+        let b : List ℕ = take m (drop place s) in
+        let h : atom b ≡ atom (k ∷ []) = bytes-prefix (atom b) (atom (k ∷ [])) (drop next s) r (sym (a .between .here) ∙ behind-open e) .0 in
+        let g : b ≡ k ∷ [] = cc in
+        f (sym (length-take-le m (drop place s) (rw length-drop (omega arith))) ∙ ap length g)
+
+-- Nodes.
+
+-- a list that is continued by two elements in its table
+take-two : (b : List ℕ) (i k v : ℕ) → i + 2 ≤ length b → take (i + 2) (sets b i (k ∷ v ∷ [])) ≡ take i b ++ (k ∷ v ∷ [])
+take-two b i k v h = rw (sets-eq (k ∷ v ∷ []) b i h) (take-at (take i b ++ (k ∷ v ∷ [])) (drop (i + 2) b) (i + 2) (simp length-append (omega (arith, length-take-le i b (omega arith)))))
+
+-- one node more is kept, stored if the table holds it
+pub keep-node : {k v : ℕ} {m : Met} {b b' : List ℕ} → length b' ≡ length b → (m .nodes < length b / 2 → b' ≡ sets b (2 * m .nodes) (k ∷ v ∷ [])) → Noted k v m b (record { nodes = m .nodes + 1; bad = m .bad; loose = m .loose }) b'
+unfolding followed
+keep-node {k} {v} {m} {b} {b'} l f = record {
+  one-more = refl;
+  kept = λ w h.
+      let n : ℕ = length (w .numbers) in
+      let long : length (w .numbers ++ (k ∷ v ∷ [])) ≡ n + 2 = length-append (w .numbers) (k ∷ v ∷ []) in
+      record {
+        count = omega (arith, h .count);
+        bad-so-far = rw or-false (h .bad-so-far);
+        loose-so-far = λ e. rw or-false (h .loose-so-far (rw or-false at e));
+        stored = λ e g.
+            let fits : n + 2 ≤ length b = omega arith in
+            let c = h .count in
+            rw (long, f (omega arith), c, take-two b n k v fits, h .stored (rw or-false at e) (omega arith));
+      };
+}
+
+-- a node whose N is bad is counted
+keep-bad : (k v : ℕ) (l : Bool) (w : Note) {m : Met} {b : List ℕ} → Keeps w m b → Keeps (followed w (node-note k v true l)) (record { nodes = m .nodes + 1; bad = true; loose = m .loose }) b
+unfolding followed
+keep-bad k v l w h = record { count = omega (arith, h .count, length-append (w .numbers) (k ∷ v ∷ [])); bad-so-far = sym (or-true (w .bad)); loose-so-far = λ e. impossible (cc (or-true (w .bad))); stored = λ e. impossible (cc (or-true (w .bad))) }
+
+-- an index without its binder is remembered
+keep-loose : (k v : ℕ) (w : Note) {m : Met} {b : List ℕ} → Keeps (followed w (node-note k v false false)) m b → Keeps (followed w (node-note k v false true)) (record { nodes = m .nodes; bad = m .bad; loose = true }) b
+unfolding followed
+keep-loose k v w h = record { count = h .count; bad-so-far = h .bad-so-far; loose-so-far = λ e. sym (or-true (w .loose)); stored = h .stored }
+
+-- Where a descent leads.
+
+module _ {n : ℕ} {s : List ℕ} where
+  -- out stays out
+  pub out-reads : {gs : List Goal} {x : Descent} {b b' : List ℕ} → x ≡ Out → Reads n s gs x b Out b'
+  out-reads e = record { then-on = λ hs z end l. rw e l }
+
+  -- nothing that the goal can be stands there
+  pub refused : {g : Goal} {gs : List Goal} {c : Cursor} {m : Met} {b b' : List ℕ} → ((a : Fill g) (r : List ℕ) → drop (c .at) s ≡ spelled g a ++ r → ⊥) → Reads n s (g ∷ gs) (To c m) b Out b'
+  refused {g} {gs} f = record { then-on = λ hs z end l. rw l (λ a r h. f (a .0) (spelled-all (gs ++ hs) (a .1) ++ r) (h ∙ append-assoc (spelled g (a .0)) (spelled-all (gs ++ hs) (a .1)) r)) }
+
+  -- what stands there can be nothing else
+  pub passed : {g : Goal} {c c' : Cursor} {m m' : Met} {b b' : List ℕ} (a : Fill g) → drop (c .at) s ≡ spelled g a ++ drop (c' .at) s → ((a' : Fill g) (r q : List ℕ) → spelled g a ++ r ≡ spelled g a' ++ q → r ≡ q) → ((w : Note) → Keeps w m b → Keeps (followed w (noted n g a)) m' b') → Reads n s (g ∷ []) (To c m) b (To c' m') b'
+  passed {g} {c} {c'} {m} {m'} {b} {b'} a here u k = record { then-on = go }
+    where
+      go : (hs : List Goal) (z : Descent) (end : List ℕ) → Leads n s hs (To c' m') b' z end → Leads n s (g ∷ hs) (To c m) b z end
+      go hs Out end l = λ f r e. l (f .1) r (u (f .0) (drop (c' .at) s) (spelled-all hs (f .1) ++ r) (sym here ∙ e ∙ append-assoc (spelled g (f .0)) (spelled-all hs (f .1)) r))
+      go hs (To c'' m'') end l = record {
+        fills = (a, l .fills);
+        here = here ∙ ap (λ (q : List ℕ). spelled g a ++ q) (l .here) ∙ sym (append-assoc (spelled g a) (spelled-all hs (l .fills)) (drop (c'' .at) s));
+        kept = λ w h. rw (← followed-assoc) (l .kept (followed w (noted n g a)) (k w h));
+      }
+
+  -- some goals and then others
+  pub and-then : {gs hs : List Goal} {x y z : Descent} {b b' b'' : List ℕ} → Reads n s gs x b y b' → Reads n s hs y b' z b'' → Reads n s (gs ++ hs) x b z b''
+  and-then {gs} {hs} {x} {y} {z} {b} {b'} {b''} p q = record { then-on = λ ks u end l. rw (append-assoc gs hs ks) (p .then-on (hs ++ ks) u end (q .then-on ks u end l)) }
+
+-- a node's kind takes nothing of the text
+pub node-reads : {n : ℕ} {s : List ℕ} {k : ℕ} {c : Cursor} {m m' : Met} {b b' : List ℕ} → Noted k 0 m b m' b' → Reads n s (kind k ∷ []) (To c m) b (To c m') b'
+node-reads o = passed tt refl (λ a r q e. e) (o .kept)
+
+-- the goals hs at another place say the same as gs: what they are makes what gs are, and the other way round
+record Turns (n : ℕ) (s : List ℕ) (gs hs : List Goal) (c c' : Cursor) : Type 0 where
+  before : List ℕ
+  here : drop (c .at) s ≡ before ++ drop (c' .at) s
+  make : Fills hs → Fills gs
+  spell : (f : Fills hs) → spelled-all gs (make f) ≡ before ++ spelled-all hs f
+  tell : (f : Fills hs) → noted-all n gs (make f) ≡ noted-all n hs f
+  back : (f : Fills gs) (r : List ℕ) → drop (c .at) s ≡ spelled-all gs f ++ r → (g : Fills hs) × (drop (c' .at) s ≡ spelled-all hs g ++ r)
+
+-- so they lead where these lead
+turned : {n : ℕ} {s : List ℕ} {gs hs : List Goal} {c c' : Cursor} → Turns n s gs hs c c' → (m : Met) (b : List ℕ) (z : Descent) (end : List ℕ) → Leads n s hs (To c' m) b z end → Leads n s gs (To c m) b z end
+turned t m b Out end l = λ f r e. let g = t .back f r e in l (g .0) r (g .1)
+turned {s} {hs} t m b (To c'' m'') end l = record {
+  fills = t .make (l .fills);
+  here = t .here ∙ ap (λ (q : List ℕ). t .before ++ q) (l .here) ∙ sym (append-assoc (t .before) (spelled-all hs (l .fills)) (drop (c'' .at) s)) ∙ ap (λ (q : List ℕ). q ++ drop (c'' .at) s) (sym (t .spell (l .fills)));
+  kept = λ w k. rw (t .tell (l .fills)) (l .kept w k);
+}
+
+-- a place is ahead
+pub ahead-to : {s : List ℕ} {k : ℕ} {c : Cursor} {m : Met} → Beyond s k (c .at) (m .nodes) → Ahead s k (To c m)
+ahead-to {s} {k} {c} {m} h c' m' e =
+    let p : c ≡ c' = cc in
+    let q : m ≡ m' = cc in
+    rw (← p, ← q) h
+
+pub ahead-out : {s : List ℕ} {k : ℕ} {x : Descent} → x ≡ Out → Ahead s k x
+ahead-out e c m f = impossible (cc)
+
+ahead-less : {s : List ℕ} {j k : ℕ} {x : Descent} → j ≤ k → Ahead s k x → Ahead s j x
+ahead-less h f c m e = let g = f c m e in omega arith
+
+-- One descent after another.
+
+module _ {n : ℕ} {s : List ℕ} {gs : List Goal} {c : Cursor} {m : Met} {b : List ℕ} where
+  pub descends-then : {hs : List Goal} {c' : Cursor} {m' : Met} {b' b'' : List ℕ} {y z : Descent} → Descends n s gs c m b y b' → y ≡ To c' m' → Descends n s hs c' m' b' z b'' → Descends n s (gs ++ hs) c m b z b''
+  descends-then {c'} {m'} p e q = let h = p .ahead c' m' e in record { reads = and-then (p .reads) (rw e (q .reads)); ahead = ahead-less (omega arith) (q .ahead) }
+
+  pub descends-out : (hs : List Goal) {b' b'' : List ℕ} {y : Descent} → Descends n s gs c m b y b' → y ≡ Out → Descends n s (gs ++ hs) c m b Out b''
+  descends-out hs p e = record { reads = and-then (p .reads) (out-reads e); ahead = ahead-out refl }
+
+  pub noted-then : {k : ℕ} {m' : Met} {b' b'' : List ℕ} {y : Descent} → Noted k 0 m b m' b' → Descends n s gs c m' b' y b'' → Descends n s (kind k ∷ gs) c m b y b''
+  noted-then o q = record { reads = and-then (node-reads o) (q .reads); ahead = q .ahead }
+
+-- A closing bracket.
+
+pub closed-out : {s : List ℕ} {x : Descent} → x ≡ Out → Closed-behind s x Out
+closed-out e = record { reads = λ n b. out-reads e; ahead = λ k h. ahead-out refl }
+
+module _ {s : List ℕ} {c : Cursor} {m : Met} where
+  pub closed-not : ((r : List ℕ) → drop (c .at) s ≡ 41 ∷ r → ⊥) → Closed-behind s (To c m) Out
+  closed-not f = record { reads = λ n b. refused (λ a. f); ahead = λ k h. ahead-out refl }
+
+  pub closed-to : {next : Cursor} → Between s (c .at) (next .at) (41 ∷ []) → Closed-behind s (To c m) (To next m)
+  closed-to h = record { reads = λ n b. passed tt (h .here) (λ a r q e. tail-eq-of-cons-eq e) (λ w k. rw followed-end k); ahead = λ k f. let g = f c m refl in ahead-to (omega (arith, h)) }
+
+-- Terms.
+
+-- behind a tag that was read: the parts of its row lead from there to y; or no row has it
+pub data Branch (n : ℕ) (s : List ℕ) (d k : ℕ) (c : Cursor) (m : Met) (b : List ℕ) (y : Descent) (b' : List ℕ) : Type 0 where
+  row : (x : Row) → k ≡ tag x → Descends n s (parts n d x) c m b y b' → Branch n s d k c m b y b'
+  no-row : ((x : Row) → k ≡ tag x → ⊥) → y ≡ Out → Branch n s d k c m b y b'
+
+branch-ahead : {n : ℕ} {s : List ℕ} {d k j : ℕ} {c : Cursor} {m : Met} {b : List ℕ} {y : Descent} {b' : List ℕ} → Branch n s d k c m b y b' → j ≤ c .at → Ahead s j y
+branch-ahead (row x e r) h = ahead-less (omega arith) (r .ahead)
+branch-ahead (no-row f e) h = ahead-out e
+
+module _ {n : ℕ} {s : List ℕ} {d : ℕ} {c : Cursor} {m : Met} {b b' : List ℕ} where
+  -- no tag, no term
+  pub term-out : ((k : ℕ) (r : List ℕ) → drop (c .at) s ≡ 40 ∷ bytes (atom (k ∷ [])) ++ r → ⊥) → Descends n s (one-term d ∷ []) c m b Out b'
+  term-out f = record { reads = record { then-on = λ hs z end l. rw l (λ g r e. let t = made n d hs g r in f (tag (t .row)) _ (e ∙ t .is)) }; ahead = ahead-out refl }
+
+  -- the term is that of the row, with its closing bracket
+  module _ {k : ℕ} {c' : Cursor} (t : Between s (c .at) (c' .at) (40 ∷ bytes (atom (k ∷ [])))) {y z : Descent} (l : Closed-behind s y z) where
+    term-reads : Branch n s d k c' m b y b' → Reads n s (one-term d ∷ []) (To c m) b z b'
+    term-reads (row x e r) = record { then-on = λ hs u end g. turned (turns hs) m b u end (rw append-assoc at (and-then (r .reads) (l .reads n b') .then-on hs u end g)) }
+      where
+        turns : (hs : List Goal) → Turns n s (one-term d ∷ hs) (parts n d x ++ (bracket 41 ∷ hs)) c c'
+        turns hs = record {
+          before = 40 ∷ bytes (atom (k ∷ []));
+          here = t .here;
+          make = term-of n d hs x;
+          spell = λ f. rw e (term-spelled n d hs x f);
+          tell = term-noted n d hs x;
+          back = λ f q h.
+              let g = tagged n d hs k (drop (c' .at) s) q f (sym (t .here) ∙ h) in
+              rw (tag-injective x (g .row) (sym e ∙ g .is)) (g .behind, g .rest);
+        }
+    term-reads (no-row f e) = record {
+      then-on = λ hs u end g.
+          let o : u ≡ Out = rw e at (l .reads n b' .then-on hs u end g) in
+          rw o (λ a r h. let w = tagged n d hs k (drop (c' .at) s) r a (sym (t .here) ∙ h) in f (w .row) (w .is));
+    }
+
+    pub term-descends : Branch n s d k c' m b y b' → Descends n s (one-term d ∷ []) c m b z b'
+    term-descends h = record { reads = term-reads h; ahead = l .ahead (c .at + 1) (branch-ahead h (omega (arith, t .forward))) }
+
+-- Members.
+
+-- where the members that are left lead, those from the place c₀ on lead
+pub record Looping (n : ℕ) (s : List ℕ) (d : ℕ) (c₀ : Cursor) (m₀ : Met) (b₀ : List ℕ) (c : Cursor) (m : Met) (b : List ℕ) : Type 0 where
+  pub more : (hs : List Goal) (z : Descent) (end : List ℕ) → Leads n s (members d ∷ hs) (To c m) b z end → Leads n s (members d ∷ hs) (To c₀ m₀) b₀ z end
+  pub same-long : length b ≡ length b₀
+  pub beyond : Beyond s (c₀ .at) (c .at) (m .nodes)
+
+pub loop-start : {n : ℕ} {s : List ℕ} {d : ℕ} {c c' : Cursor} {m : Met} {b : List ℕ} → Between s (c .at) (c' .at) (40 ∷ []) → Ready n d c m → Looping n s d c' m b c' m b
+loop-start h r = record { more = λ hs z end l. l; same-long = refl; beyond = omega arith }
+
+-- behind the opening bracket
+opened : {n : ℕ} {s : List ℕ} {d : ℕ} {c c' : Cursor} {m : Met} {b b' : List ℕ} {y : Descent} → Between s (c .at) (c' .at) (40 ∷ []) → Reads n s (members d ∷ []) (To c' m) b y b' → Reads n s (bracket 40 ∷ members d ∷ []) (To c m) b y b'
+opened h r = and-then (passed tt (h .here) (λ a r q e. tail-eq-of-cons-eq e) (λ w k. rw followed-end k)) r
+
+pub program-none : {n : ℕ} {s : List ℕ} {d : ℕ} {c : Cursor} {m : Met} {b b' : List ℕ} → ((r : List ℕ) → drop (c .at) s ≡ 40 ∷ r → ⊥) → Descends n s (bracket 40 ∷ members d ∷ []) c m b Out b'
+program-none f = record { reads = refused (λ a. f); ahead = ahead-out refl }
+
+module _ {n : ℕ} {s : List ℕ} {d : ℕ} {c₀ : Cursor} {m₀ : Met} {b₀ : List ℕ} {c : Cursor} {m : Met} {b : List ℕ} (l : Looping n s d c₀ m₀ b₀ c m b) {m' : Met} {b' : List ℕ} where
+  -- the closing bracket ends the members
+  pub program-end : {c' c'' : Cursor} → Between s (c'' .at) (c₀ .at) (40 ∷ []) → Between s (c .at) (c' .at) (41 ∷ []) → Noted 0 0 m b m' b' → Descends n s (bracket 40 ∷ members d ∷ []) c'' m₀ b₀ (To c' m') b'
+  unfolding bytes encode note
+  program-end {c'} p h o =
+      let e : Reads n s (members d ∷ []) (To c m) b (To c' m') b' = passed raw-empty (h .here) (λ a r q e. members-prefix nothing (encode a) r q (e ∙ append-snoc (bytes (encode a)) 41 q) .1) (o .kept) in
+      record { reads = opened p (record { then-on = λ hs z end g. l .more hs z end (e .then-on hs z end g) }); ahead = ahead-to (omega (arith, l .beyond, o .one-more)) }
+
+  -- another member
+  module _ (f : (r : List ℕ) → drop (c .at) s ≡ 41 ∷ r → ⊥) (o : Noted 1 0 m b m' b') {y : Descent} {b'' : List ℕ} (t : Descends n s (one-term d ∷ []) c m' b' y b'') where
+    one-more-member : (hs : List Goal) (z : Descent) (end : List ℕ) → Leads n s (members d ∷ hs) y b'' z end → Leads n s (members d ∷ hs) (To c₀ m₀) b₀ z end
+    one-more-member hs z end g =
+        let turns : Turns n s (members d ∷ hs) (kind 1 ∷ one-term d ∷ members d ∷ hs) c c = record { before = []; here = refl; make = program-of n d hs; spell = program-spelled n d hs; tell = program-noted n d hs; back = λ a r e. member n d hs a (drop (c .at) s) r f e } in
+        l .more hs z end (turned turns m b z end (and-then (node-reads o) (t .reads) .then-on (members d ∷ hs) z end g))
+
+    pub program-out : {c'' : Cursor} → Between s (c'' .at) (c₀ .at) (40 ∷ []) → y ≡ Out → Descends n s (bracket 40 ∷ members d ∷ []) c'' m₀ b₀ Out b''
+    program-out p e = record { reads = opened p (record { then-on = λ hs z end g. one-more-member hs z end (rw e g) }); ahead = ahead-out refl }
+
+    pub loop-again : {c' : Cursor} {m'' : Met} → y ≡ To c' m'' → length b' ≡ length b → length b'' ≡ length b' → Looping n s d c₀ m₀ b₀ c' m'' b''
+    loop-again {c'} {m''} e p q = let h = t .ahead c' m'' e in record { more = λ hs z end g. one-more-member hs z end (rw e g); same-long = omega (arith, l .same-long); beyond = omega (arith, l .beyond) }
+
+-- An N.
+
+module _ {s : List ℕ} {c : Cursor} {m : Met} {k below d : ℕ} where
+  pub number-out : {b b' : List ℕ} → ((a r : List ℕ) → drop (c .at) s ≡ bytes (atom a) ++ r → ⊥) → (n : ℕ) → Descends n s (number k below d ∷ []) c m b Out b'
+  number-out f n = record { reads = refused f; ahead = ahead-out refl }
+
+  module _ {b b' : List ℕ} {place len : ℕ} {next : Cursor} (a : AtomBetween s (c .at) place len (next .at)) (few : m .nodes ≤ c .at) where
+    number-to : {m' : Met} → m' .nodes ≡ m .nodes + 1 → ((w : Note) → Keeps w m b → Keeps (followed w (number-note k below d (take len (drop place s)))) m' b') → (n : ℕ) → Descends n s (number k below d ∷ []) c m b (To next m') b'
+    number-to e f n = record { reads = passed (take len (drop place s)) (a .between .here) (λ q r t g. bytes-prefix (atom (take len (drop place s))) (atom q) r t g .1) f; ahead = ahead-to (omega arith) }
+
+    pub number-bad : NumberIs (take len (drop place s)) below Bad → b' ≡ b → (n : ℕ) → Descends n s (number k below d ∷ []) c m b (To next (record { nodes = m .nodes + 1; bad = true; loose = m .loose })) b'
+    number-bad h e = number-to refl (λ w g. rw (note-unread k d h, e) (keep-bad k _ _ w g))
+
+    module _ {v : ℕ} {m' : Met} (h : NumberIs (take len (drop place s)) below (Is v)) (o : Noted k v m b m' b') where
+      pub number-loose : k ≡ 2 → d ≤ v → (n : ℕ) → Descends n s (number k below d ∷ []) c m b (To next (record { nodes = m' .nodes; bad = m' .bad; loose = true })) b'
+      number-loose e l = number-to (o .one-more) (λ w g. rw (note-read k d true h (rw (e, le-leb d v l))) (keep-loose k v w (o .kept w g)))
+
+      pub number-bound : (k ≡ 2 → v < d) → (n : ℕ) → Descends n s (number k below d ∷ []) c m b (To next m') b'
+      number-bound f = number-to (o .one-more) (λ w g. rw (note-read k d false h (go (eqb k 2) refl)) (o .kept w g))
+        where
+          go : (t : Bool) → eqb k 2 ≡ t → (eqb k 2 && leb d v) ≡ false
+          go true e = rw (e, lt-leb d v (f (eqb-true k 2 e)))
+          go false e = rw e
+
+-- The whole text.
+
+text-spelled : (r : Raw program) → raw-text r ≡ spelled-all (bracket 40 ∷ members 0 ∷ []) (tt, (r, tt))
+unfolding raw-text bytes
+text-spelled r = rw append-nil
+
+-- nothing more is to be read
+leads-end : (n : ℕ) (s b : List ℕ) (y : Descent) → Leads n s [] y b y b
+leads-end n s b Out = refl
+leads-end n s b (To c m) = record { fills = tt; here = refl; kept = λ w k. rw followed-end k }
+
+-- the program that was read, before what follows it
+pub record Whole (n : ℕ) (s : List ℕ) (c : Cursor) (m : Met) (b : List ℕ) : Type 0 where
+  pub found : Raw program
+  pub here : s ≡ raw-text found ++ drop (c .at) s
+  pub keeps : Keeps (note n 0 found) m b
+  pub within : c .at ≤ length s
+
+abbrev nothing-met : Met
+nothing-met = record { nodes = 0; bad = false; loose = false }
+
+module _ {n : ℕ} {s : List ℕ} {c : Cursor} {b b' : List ℕ} {y : Descent} (start : c .at ≡ 0) (h : Descends n s (bracket 40 ∷ members 0 ∷ []) c nothing-met b y b') where
+  leads : Leads n s (bracket 40 ∷ members 0 ∷ []) (To c nothing-met) b y b'
+  leads = h .reads .then-on [] y b' (leads-end n s b' y)
+
+  -- no program stands at the beginning
+  pub parse-out : y ≡ Out → Parses n s b' Parsed-out
+  parse-out e = out (λ r t. (rw (e, start) at leads) (tt, (r, tt)) [] (sym t ∙ text-spelled r ∙ sym (append-nil _)))
+
+  -- one does
+  pub whole : {c' : Cursor} {m : Met} → y ≡ To c' m → Whole n s c' m b'
+  whole {c'} {m} e =
+      let p : Passes n s (bracket 40 ∷ members 0 ∷ []) (c .at) nothing-met b (c' .at) m b' = rw e at leads in
+      let r = p .fills .1 .0 in
+      record {
+        found = r;
+        here = ap (λ (k : ℕ). drop k s) (sym start) ∙ p .here ∙ ap (λ (q : List ℕ). q ++ drop (c' .at) s) (sym (text-spelled r));
+        keeps = simp (followed-none, followed-end) at (p .kept no-node (record { count = refl; bad-so-far = refl; loose-so-far = λ e. refl; stored = λ e l. refl }));
+        within = h .ahead c' m e .within;
+      }
+
+module _ {n : ℕ} {s : List ℕ} {c : Cursor} {m : Met} {b : List ℕ} (w : Whole n s c m b) where
+  -- something follows it
+  pub parse-more : (c .at ≡ length s → ⊥) → Parses n s b Parsed-out
+  unfolding raw-text
+  parse-more f = out (λ r t. f (omega (arith, w .within, length-drop (c .at) s, ap length (bytes-prefix (list (encode (w .found))) (list (encode r)) (drop (c .at) s) [] (sym (w .here) ∙ sym t ∙ sym (append-nil _)) .1))))
+
+  module _ (l : c .at ≡ length s) where
+    ended : s ≡ raw-text (w .found)
+    ended = w .here ∙ rw (l, drop-length, append-nil)
+
+    -- an N of it is bad
+    pub parse-bad : m .bad ≡ true → Parses n s b Parsed-bad
+    unfolding text
+    parse-bad e = bad (w .found) (sym ended) (λ p o.
+        let same : raw p ≡ w .found = raw-text-injective (raw p) (w .found) (o .is ∙ ended) in
+        let t = rw same at (told n 0 p (o .ranges)) in
+        impossible (cc (t .good, w .keeps .bad-so-far, e)))
+
+    module _ (e : m .bad ≡ false) where
+      good : note n 0 (w .found) .bad ≡ false
+      good = sym (w .keeps .bad-so-far) ∙ e
+
+      tree : Tree program
+      tree = treed n 0 (w .found) good .tree
+
+      of-tree : TextOf n s tree
+      unfolding text tree
+      of-tree = let t = treed n 0 (w .found) good in record { is = ap raw-text (t .is) ∙ sym ended; ranges = t .ranges }
+
+      told-tree : Told 0 tree (note n 0 (w .found))
+      unfolding tree
+      told-tree = let t = treed n 0 (w .found) good in rw (t .is) at (told n 0 (t .tree) (t .ranges))
+
+      -- an index of it has no binder
+      pub parse-loose : m .loose ≡ true → Parses n s b Loose
+      parse-loose f = loose tree of-tree (λ c. impossible (cc (told-tree .binds .1 c, w .keeps .loose-so-far good)))
+
+      -- it is closed
+      pub parse-nodes : m .loose ≡ false → Parses n s b (Nodes (m .nodes))
+      parse-nodes f =
+          let t = told-tree in
+          let size : length (note n 0 (w .found) .numbers) ≡ 2 * nodes tree = ap length (t .stands) ∙ preorder-length tree in
+          let count : m .nodes ≡ nodes tree = omega (arith, w .keeps .count) in
+          rw count (of-nodes tree of-tree (t .binds .0 (sym (w .keeps .loose-so-far good) ∙ f)) (λ l. rw (← size) (w .keeps .stored good (omega arith) ∙ t .stands)))

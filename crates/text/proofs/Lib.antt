@@ -1,0 +1,9 @@
+-- Laws of texts.
+pub mod Written
+pub mod Lengths
+pub mod Decimals
+pub mod Grammar
+pub mod Descents
+pub mod RoundTrip
+pub mod Stored
+pub mod Readings

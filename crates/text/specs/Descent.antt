@@ -1,0 +1,200 @@
+-- What the private functions of the reader say: the items that the grammar asks for, what a descent notes of the nodes that it passes, and where it leads.
+use mathlib.Core.Path.{_≡_}
+use mathlib.Core.Bool.{Bool, true, false, not, _||_, _&&_}
+use mathlib.Core.List.{List, [], _∷_, _++_}
+use Prim.Native.Nat.{ℕ, suc, _+_, _*_, _≤_, _<_}
+use lib.Dec.{eqb, ltb, leb}
+use lib.ListN.{length, take, drop}
+use Rattle.calculus.specs.Tree.{Sort, term, program, pairKind}
+use Rattle.calculus.specs.Good.{constructors}
+use Rattle.calculus.specs.Sexp.{decimal, atom, bytes}
+use Rattle.calculus.specs.Text.{Leaf, bound-leaf, free-leaf, con-leaf, Raw, raw-empty, raw-alt, raw-leaf, raw-code, raw-at, raw-fresh, raw-two, encode}
+use Rattle.calculus.proofs.Decimals.{number-of}
+use Rattle.csexp.specs.declared.Cursor.{Cursor}
+use Rattle.text.specs.declared.items.Found.{Found}
+use Rattle.text.specs.declared.items.Found.the-variants.{No as No-found, Behind}
+use Rattle.text.specs.declared.items.Atomic.{Atomic}
+use Rattle.text.specs.declared.items.Atomic.the-variants.{No as No-atom, Of}
+use Rattle.text.specs.declared.items.Tag.{Tag}
+use Rattle.text.specs.declared.items.Tag.the-variants.{No as No-tag, Is}
+use Rattle.text.specs.declared.parse.Met.{Met}
+use Rattle.text.specs.declared.parse.Descent.{Descent}
+use Rattle.text.specs.declared.parse.Descent.the-variants.{Out, To}
+
+-- Items.
+
+-- these bytes stand between two places
+pub record Between (s : List ℕ) (at next : ℕ) (item : List ℕ) : Type 0 where
+  pub forward : at < next
+  pub within : next ≤ length s
+  pub here : drop at s ≡ item ++ drop next s
+
+-- the bracket k, or another byte or none
+abbrev pub FoundAt : ℕ → List ℕ → ℕ → Found → Type 0
+FoundAt k s at No-found = (r : List ℕ) → drop at s ≡ k ∷ r → ⊥
+FoundAt k s at (Behind c) = Between s at (c .at) (k ∷ [])
+
+-- an atom of the n bytes from a place on
+pub record AtomBetween (s : List ℕ) (at place n next : ℕ) : Type 0 where
+  pub fits : place + n ≤ length s
+  pub between : Between s at next (bytes (atom (take n (drop place s))))
+
+abbrev pub AtomAt : List ℕ → ℕ → Atomic → Type 0
+AtomAt s at No-atom = (b r : List ℕ) → drop at s ≡ bytes (atom b) ++ r → ⊥
+AtomAt s at (Of place n c) = AtomBetween s at place n (c .at)
+
+-- an opening bracket and an atom of one byte
+abbrev pub TagAt : List ℕ → ℕ → Tag → Type 0
+TagAt s at No-tag = (k : ℕ) (r : List ℕ) → drop at s ≡ 40 ∷ bytes (atom (k ∷ [])) ++ r → ⊥
+TagAt s at (Is k c) = (at + 2 ≤ c .at) × Between s at (c .at) (40 ∷ bytes (atom (k ∷ [])))
+
+-- Nodes.
+
+-- of the nodes passed: their kinds and numbers, whether an N was bad, whether an index had no binder
+pub record Note : Type 0 where
+  pub numbers : List ℕ
+  pub bad : Bool
+  pub loose : Bool
+
+abbrev pub no-node : Note
+no-node = record { numbers = []; bad = false; loose = false }
+
+-- one node
+abbrev pub node-note : ℕ → ℕ → Bool → Bool → Note
+node-note k v bad loose = record { numbers = k ∷ v ∷ []; bad = bad; loose = loose }
+
+-- the one and then the other
+unfoldable pub followed : Note → Note → Note
+followed v w = record { numbers = v .numbers ++ w .numbers; bad = v .bad || w .bad; loose = v .loose || w .loose }
+
+unfoldable pub same : List ℕ → List ℕ → Bool
+same [] [] = true
+same [] (b ∷ q) = false
+same (a ∷ p) [] = false
+same (a ∷ p) (b ∷ q) = eqb a b && same p q
+
+-- the bytes are the plain decimal of a number below the bound
+unfoldable pub is-number : ℕ → List ℕ → Bool
+is-number below b = ltb (number-of b) below && same (decimal (number-of b)) b
+
+-- a node of the kind k with an N, d binders around it: an index is kind 2
+unfoldable pub number-note : ℕ → ℕ → ℕ → List ℕ → Note
+number-note k below d b = node-note k (number-of b) (not (is-number below b)) (eqb k 2 && leb d (number-of b))
+
+abbrev pub leaf-kind : Leaf → ℕ
+leaf-kind bound-leaf = 2
+leaf-kind free-leaf = 3
+leaf-kind con-leaf = 4
+
+abbrev pub leaf-below : ℕ → Leaf → ℕ
+leaf-below n bound-leaf = n
+leaf-below n free-leaf = n
+leaf-below n con-leaf = constructors
+
+-- what a descent notes of a term or a program under the limit n, d binders around it
+unfoldable pub note : {s : Sort} → ℕ → ℕ → Raw s → Note
+note n d raw-empty = node-note 0 0 false false
+note n d (raw-alt t p) = followed (node-note 1 0 false false) (followed (note n d t) (note n d p))
+note n d (raw-leaf l b) = number-note (leaf-kind l) (leaf-below n l) d b
+note n d (raw-code p) = followed (node-note 5 0 false false) (note n (d + 1) p)
+note n d (raw-at b p) = followed (number-note 6 n d b) (note n (d + 1) p)
+note n d (raw-fresh t) = followed (node-note 8 0 false false) (note n (d + 1) t)
+note n d (raw-two o t u) = followed (node-note (pairKind o) 0 false false) (followed (note n d t) (note n d u))
+
+-- what the code keeps of it: the count, whether an N was bad, and until then whether an index had no binder, and the nodes in the build table if it holds them
+pub record Keeps (w : Note) (m : Met) (build : List ℕ) : Type 0 where
+  pub count : 2 * m .nodes ≡ length (w .numbers)
+  pub bad-so-far : m .bad ≡ w .bad
+  pub loose-so-far : w .bad ≡ false → m .loose ≡ w .loose
+  pub stored : w .bad ≡ false → length (w .numbers) ≤ length build → take (length (w .numbers)) build ≡ w .numbers
+
+-- one node more
+pub record Noted (k v : ℕ) (m : Met) (build : List ℕ) (m' : Met) (build' : List ℕ) : Type 0 where
+  pub one-more : m' .nodes ≡ m .nodes + 1
+  pub kept : (w : Note) → Keeps w m build → Keeps (followed w (node-note k v false false)) m' build'
+
+-- The descent.
+
+-- what is to be read: a node's kind, of which the text has nothing; the N of a node of a kind, below a bound, d binders around it; a bracket;
+-- a term; the members of a program with its closing bracket
+pub data Goal : Type 0 where
+  kind : ℕ → Goal
+  number : ℕ → ℕ → ℕ → Goal
+  bracket : ℕ → Goal
+  one-term : ℕ → Goal
+  members : ℕ → Goal
+
+abbrev pub Fill : Goal → Type 0
+Fill (kind k) = Unit {0}
+Fill (number k below d) = List ℕ
+Fill (bracket k) = Unit {0}
+Fill (one-term d) = Raw term
+Fill (members d) = Raw program
+
+abbrev pub spelled : (g : Goal) → Fill g → List ℕ
+spelled (kind k) f = []
+spelled (number k below d) f = bytes (atom f)
+spelled (bracket k) f = k ∷ []
+spelled (one-term d) f = bytes (encode f)
+spelled (members d) f = bytes (encode f) ++ (41 ∷ [])
+
+abbrev pub noted : ℕ → (g : Goal) → Fill g → Note
+noted n (kind k) f = node-note k 0 false false
+noted n (number k below d) f = number-note k below d f
+noted n (bracket k) f = no-node
+noted n (one-term d) f = note n d f
+noted n (members d) f = note n d f
+
+-- the same for one goal after the other
+abbrev pub Fills : List Goal → Type 0
+Fills [] = Unit {0}
+Fills (g ∷ gs) = Fill g × Fills gs
+
+abbrev pub spelled-all : (gs : List Goal) → Fills gs → List ℕ
+spelled-all [] f = []
+spelled-all (g ∷ gs) f = spelled g (f .0) ++ spelled-all gs (f .1)
+
+abbrev pub noted-all : ℕ → (gs : List Goal) → Fills gs → Note
+noted-all n [] f = no-node
+noted-all n (g ∷ gs) f = followed (noted n g (f .0)) (noted-all n gs (f .1))
+
+-- the goals stand between two places, and are kept
+pub record Passes (n : ℕ) (s : List ℕ) (gs : List Goal) (at : ℕ) (m : Met) (build : List ℕ) (next : ℕ) (m' : Met) (build' : List ℕ) : Type 0 where
+  pub fills : Fills gs
+  pub here : drop at s ≡ spelled-all gs fills ++ drop next s
+  pub kept : (w : Note) → Keeps w m build → Keeps (followed w (noted-all n gs fills)) m' build'
+
+-- where the descent x leads if these goals are still to be read: out, if they don't stand there
+abbrev pub Leads : ℕ → List ℕ → List Goal → Descent → List ℕ → Descent → List ℕ → Type 0
+Leads n s gs Out build z end = z ≡ Out
+Leads n s gs (To c m) build Out end = (f : Fills gs) (r : List ℕ) → drop (c .at) s ≡ spelled-all gs f ++ r → ⊥
+Leads n s gs (To c m) build (To c' m') end = Passes n s gs (c .at) m build (c' .at) m' end
+
+-- x becomes y by reading the goals: whatever is to be read behind them, where y leads x leads
+pub record Reads (n : ℕ) (s : List ℕ) (gs : List Goal) (x : Descent) (build : List ℕ) (y : Descent) (build' : List ℕ) : Type 0 where
+  pub then-on : (hs : List Goal) (z : Descent) (end : List ℕ) → Leads n s hs y build' z end → Leads n s (gs ++ hs) x build z end
+
+-- a place from k on, within the text, with at most as many nodes
+pub record Beyond (s : List ℕ) (k at nodes : ℕ) : Type 0 where
+  pub further : k ≤ at
+  pub within : at ≤ length s
+  pub few : nodes ≤ at
+
+abbrev pub Ahead : List ℕ → ℕ → Descent → Type 0
+Ahead s k x = (c : Cursor) (m : Met) → x ≡ To c m → Beyond s k (c .at) (m .nodes)
+
+-- with d binders around it: nothing that is counted can wrap
+pub record Ready (n d : ℕ) (c : Cursor) (m : Met) : Type 0 where
+  pub small : n < constructors
+  pub nested : d ≤ c .at
+  pub few : m .nodes ≤ c .at + 1
+
+-- what a descent by these goals owes
+pub record Descends (n : ℕ) (s : List ℕ) (gs : List Goal) (c : Cursor) (m : Met) (build : List ℕ) (y : Descent) (build' : List ℕ) : Type 0 where
+  pub reads : Reads n s gs (To c m) build y build'
+  pub ahead : Ahead s (c .at + 1) y
+
+-- the same for a closing bracket, which asks and leaves nothing else
+pub record Closed-behind (s : List ℕ) (x y : Descent) : Type 0 where
+  pub reads : (n : ℕ) (build : List ℕ) → Reads n s (bracket 41 ∷ []) x build y build
+  pub ahead : (k : ℕ) → Ahead s k x → Ahead s k y

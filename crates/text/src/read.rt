@@ -1,0 +1,66 @@
+// Text to table, with its refusals.
+ghost use mathlib.Core.Path.{_≡_};
+ghost use Prim.Native.Nat.{_+_, _*_, _≤_, _<_};
+ghost use lib.ListN.{length};
+ghost use lib.Seq.{paste};
+ghost use Rattle.calculus.specs.Answers.{countedValues};
+ghost use Rattle.calculus.specs.Calls.{Reads};
+use crate::Parsed;
+use crate::parse::parse;
+use calculus::Counted;
+use calculus::Refusal;
+use csexp::is_one;
+use table::Checked;
+use table::check::check;
+
+// Copies the first n numbers of a table to the front of another.
+fn copy(from: &[u16], n: usize, out: &mut [u16])
+    requires { ⌜ n ≤ length (now from) ⌝ }
+    requires { ⌜ n ≤ length (now out) ⌝ }
+    ensures { λ _. ⌜ now (out .exit) ≡ paste (now (out .entry)) 0 (now (from .entry)) n ⌝ }
+{
+    let mut i: usize = 0;
+    while i < n {
+        out[i] = from[i];
+        i += 1;
+    }
+}
+
+// Reads a text into a table. The build table and the scratch are lent; the limit is the node limit.
+// It builds apart from the output, into which nothing may be written before the last refusal is decided.
+pub fn read(
+    text: &[u8],
+    out: &mut [u16],
+    limit: usize,
+    build: &mut [u16],
+    scratch: &mut [u16],
+) -> Counted
+    requires { ⌜ limit < 32767 ⌝ }
+    requires { ⌜ 2 * limit ≤ length (now build) ⌝ }
+    requires { ⌜ limit + 2 ≤ length (now scratch) ⌝ }
+    ensures { λ r. ⌜ Reads limit (now (text .entry)) (now (out .entry)) (countedValues r) (now (out .exit)) ⌝ }
+{
+    if 12 * limit < text.len() {
+        return Counted::Refused(Refusal::TooLong);
+    }
+    if !is_one(text) {
+        return Counted::Refused(Refusal::NotCanonical);
+    }
+    let nodes = match parse(text, limit, build) {
+        Parsed::Out => return Counted::Refused(Refusal::OutOfPlace),
+        Parsed::Bad => return Counted::Refused(Refusal::BadNumber),
+        Parsed::Loose => return Counted::Refused(Refusal::NoBinder),
+        Parsed::Nodes(n) => n,
+    };
+    if limit < nodes {
+        return Counted::Refused(Refusal::TooManyNodes);
+    }
+    let Checked::Admitted = check(build, nodes, limit, scratch) else {
+        return Counted::Refused(Refusal::Incoherent);
+    };
+    if out.len() / 2 < nodes {
+        return Counted::Refused(Refusal::NoRoom);
+    }
+    copy(build, 2 * nodes, out);
+    Counted::Count(nodes)
+}
