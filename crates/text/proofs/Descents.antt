@@ -7,7 +7,7 @@ use native.Mathlib.Omega.{arith}
 use lib.Dec.{eqb, leb}
 use borrow.Author.Tests.{eqb-true, le-leb, lt-leb}
 use lib.ListN.{length, getD, take, drop, length-append, length-drop}
-use lib.Seq.{append-snoc, drop-cons, drop-length, sets, sets-eq, length-take-le, take-at}
+use lib.Seq.{append-snoc, drop-cons, drop-length, sets, sets-eq, length-sets, length-take-le, take-at}
 use Rattle.calculus.specs.Sexp.{atom, list, nothing, bytes}
 use Rattle.calculus.specs.Tree.{program, Tree, nodes}
 use Rattle.calculus.specs.Calls.{TextOf}
@@ -19,7 +19,7 @@ use Rattle.calculus.proofs.Preorders.{preorder-length}
 use Rattle.csexp.specs.declared.Cursor.{Cursor}
 use Rattle.csexp.specs.declared.Item.{Item}
 use Rattle.csexp.specs.declared.Item.the-variants.{Open, Close, Atom}
-use Rattle.csexp.specs.Items.{opening, closing, of-atom, Begins, itemBytes, Placed}
+use Rattle.csexp.specs.Items.{opening, closing, of-atom, Begins, itemBytes}
 use Rattle.csexp.proofs.Closings.{Took}
 use Rattle.text.specs.declared.numbers.Number.the-variants.{Bad, Is}
 use Rattle.text.specs.Numbers.{NumberIs}
@@ -28,8 +28,8 @@ use Rattle.text.specs.declared.parse.Descent.{Descent}
 use Rattle.text.specs.declared.parse.Descent.the-variants.{Out, To}
 use Rattle.text.specs.declared.Parsed.the-variants.{Out as Parsed-out, Bad as Parsed-bad, Loose, Nodes}
 use Rattle.text.specs.Reading.{Parses, out, bad, loose, of-nodes}
-use Rattle.text.specs.Descent.{Between, AtomBetween, Note, no-node, node-note, followed, number-note, note, Keeps, Noted, Goal, kind, number, bracket, one-term, members, Fill, spelled, noted, Fills, spelled-all, noted-all, Passes, Leads, Reads, Beyond, Ahead, Ready, Descends, Closed-behind}
-use Rattle.text.proofs.Grammar.{Row, tag, parts, tag-injective, followed-assoc, followed-none, followed-end, term-of, term-spelled, term-noted, made, Tagged, tagged, program-of, program-spelled, program-noted, member, note-read, note-unread, Told, told, treed}
+use Rattle.text.specs.Descent.{Between, AtomBetween, Note, no-node, node-note, followed, number-note, note, Keeps, Noted, Goal, kind, number, bracket, one-term, members, Fill, spelled, noted, Fills, spelled-all, noted-all, Passes, Leads, Reads, Beyond, Ahead, Ready, Descends, Closes}
+use Rattle.text.proofs.Grammar.{Row, tag, parts, tag-injective, followed-assoc, followed-none, followed-end, term-of, term-spelled, term-noted, made, tagged, program-of, program-spelled, program-noted, member, note-read, note-unread, Told, told, treed}
 
 impossible : {A : Type 0} → _≡_ {A = ℕ} 0 1 → A
 impossible e = absurd (omega arith)
@@ -44,10 +44,11 @@ unfolding bytes
 no-bracket b r q k h e = decimal-first (length b) k _ q h (rw append-assoc at e)
 
 module _ {s : List ℕ} {at next : ℕ} where
-  -- a bracket is there
+  -- an opening bracket is there
   pub open-there : Took s at Open next → Between s at next (40 ∷ [])
   open-there t = took-between t (omega (arith, t .placed))
 
+  -- a closing one
   pub close-there : Took s at Close next → Between s at next (41 ∷ [])
   close-there t = took-between t (omega (arith, t .placed))
 
@@ -73,13 +74,15 @@ module _ {s : List ℕ} {at next : ℕ} where
       go Close t f = no-bracket b r (drop next s) 41 (omega arith) (sym e ∙ t .here)
       go (Atom p m) t f = f p m refl
 
--- no item is there: no bracket and no atom
+-- no item is there, so no opening bracket
 pub no-open : (l r : List ℕ) → (Begins l → ⊥) → l ≡ 40 ∷ r → ⊥
 no-open l r f e = f (record { item = 40 ∷ []; rest = r; is-item = opening; here = e })
 
+-- no closing one
 pub no-close : (l r : List ℕ) → (Begins l → ⊥) → l ≡ 41 ∷ r → ⊥
 no-close l r f e = f (record { item = 41 ∷ []; rest = r; is-item = closing; here = e })
 
+-- no atom
 pub no-atom : (l b r : List ℕ) → (Begins l → ⊥) → l ≡ bytes (atom b) ++ r → ⊥
 no-atom l b r f e = f (record { item = bytes (atom b); rest = r; is-item = of-atom b; here = e })
 
@@ -112,24 +115,32 @@ module _ {s : List ℕ} {at mid : ℕ} (o : Between s at mid (40 ∷ [])) where
 take-two : (b : List ℕ) (i k v : ℕ) → i + 2 ≤ length b → take (i + 2) (sets b i (k ∷ v ∷ [])) ≡ take i b ++ (k ∷ v ∷ [])
 take-two b i k v h = rw (sets-eq (k ∷ v ∷ []) b i h) (take-at (take i b ++ (k ∷ v ∷ [])) (drop (i + 2) b) (i + 2) (simp length-append (omega (arith, length-take-le i b (omega arith)))))
 
--- one node more is kept, stored if the table holds it
-pub keep-node : {k v : ℕ} {m : Met} {b b' : List ℕ} → length b' ≡ length b → (m .nodes < length b / 2 → b' ≡ sets b (2 * m .nodes) (k ∷ v ∷ [])) → Noted k v m b (record { nodes = m .nodes + 1; bad = m .bad; loose = m .loose }) b'
-unfolding followed
-keep-node {k} {v} {m} {b} {b'} l f = record {
-  one-more = refl;
-  kept = λ w h.
-      let n : ℕ = length (w .numbers) in
-      let long : length (w .numbers ++ (k ∷ v ∷ [])) ≡ n + 2 = length-append (w .numbers) (k ∷ v ∷ []) in
-      record {
-        count = omega (arith, h .count);
-        bad-so-far = rw or-false (h .bad-so-far);
-        loose-so-far = λ e. rw or-false (h .loose-so-far (rw or-false at e));
-        stored = λ e g.
-            let fits : n + 2 ≤ length b = omega arith in
-            let c = h .count in
-            rw (long, f (omega arith), c, take-two b n k v fits, h .stored (rw or-false at e) (omega arith));
-      };
-}
+module _ {k v : ℕ} {m : Met} {b b' : List ℕ} where
+  keep-node : length b' ≡ length b → (m .nodes < length b / 2 → b' ≡ sets b (2 * m .nodes) (k ∷ v ∷ [])) → Noted k v m b (record { nodes = m .nodes + 1; bad = m .bad; loose = m .loose }) b'
+  unfolding followed
+  keep-node l f = record {
+    one-more = refl;
+    kept = λ w h.
+        let n : ℕ = length (w .numbers) in
+        let long : length (w .numbers ++ (k ∷ v ∷ [])) ≡ n + 2 = length-append (w .numbers) (k ∷ v ∷ []) in
+        record {
+          count = omega (arith, h .count);
+          bad-so-far = rw or-false (h .bad-so-far);
+          loose-so-far = λ e. rw or-false (h .loose-so-far (rw or-false at e));
+          stored = λ e g.
+              let fits : n + 2 ≤ length b = omega arith in
+              let c = h .count in
+              rw (long, f (omega arith), c, take-two b n k v fits, h .stored (rw or-false at e) (omega arith));
+        };
+  }
+
+  -- one node more is kept: the table holds it
+  pub node-stored : b' ≡ sets b (2 * m .nodes) (k ∷ v ∷ []) → Noted k v m b (record { nodes = m .nodes + 1; bad = m .bad; loose = m .loose }) b'
+  node-stored e = keep-node (ap length e ∙ length-sets b (2 * m .nodes) (k ∷ v ∷ [])) (λ h. e)
+
+  -- or it is counted only
+  pub node-counted : b' ≡ b → length b / 2 ≤ m .nodes → Noted k v m b (record { nodes = m .nodes + 1; bad = m .bad; loose = m .loose }) b'
+  node-counted e h = keep-node (ap length e) (λ l. absurd (omega arith))
 
 -- a node whose N is bad is counted
 keep-bad : (k v : ℕ) (l : Bool) (w : Note) {m : Met} {b : List ℕ} → Keeps w m b → Keeps (followed w (node-note k v true l)) (record { nodes = m .nodes + 1; bad = true; loose = m .loose }) b
@@ -145,15 +156,15 @@ keep-loose k v w h = record { count = h .count; bad-so-far = h .bad-so-far; loos
 
 module _ {n : ℕ} {s : List ℕ} where
   -- out stays out
-  pub out-reads : {gs : List Goal} {x : Descent} {b b' : List ℕ} → x ≡ Out → Reads n s gs x b Out b'
+  out-reads : {gs : List Goal} {x : Descent} {b b' : List ℕ} → x ≡ Out → Reads n s gs x b Out b'
   out-reads e = record { then-on = λ hs z end l. rw e l }
 
   -- nothing that the goal can be stands there
-  pub refused : {g : Goal} {gs : List Goal} {c : Cursor} {m : Met} {b b' : List ℕ} → ((a : Fill g) (r : List ℕ) → drop (c .at) s ≡ spelled g a ++ r → ⊥) → Reads n s (g ∷ gs) (To c m) b Out b'
+  refused : {g : Goal} {gs : List Goal} {c : Cursor} {m : Met} {b b' : List ℕ} → ((a : Fill g) (r : List ℕ) → drop (c .at) s ≡ spelled g a ++ r → ⊥) → Reads n s (g ∷ gs) (To c m) b Out b'
   refused {g} {gs} f = record { then-on = λ hs z end l. rw l (λ a r h. f (a .0) (spelled-all (gs ++ hs) (a .1) ++ r) (h ∙ append-assoc (spelled g (a .0)) (spelled-all (gs ++ hs) (a .1)) r)) }
 
   -- what stands there can be nothing else
-  pub passed : {g : Goal} {c c' : Cursor} {m m' : Met} {b b' : List ℕ} (a : Fill g) → drop (c .at) s ≡ spelled g a ++ drop (c' .at) s → ((a' : Fill g) (r q : List ℕ) → spelled g a ++ r ≡ spelled g a' ++ q → r ≡ q) → ((w : Note) → Keeps w m b → Keeps (followed w (noted n g a)) m' b') → Reads n s (g ∷ []) (To c m) b (To c' m') b'
+  passed : {g : Goal} {c c' : Cursor} {m m' : Met} {b b' : List ℕ} (a : Fill g) → drop (c .at) s ≡ spelled g a ++ drop (c' .at) s → ((a' : Fill g) (r q : List ℕ) → spelled g a ++ r ≡ spelled g a' ++ q → r ≡ q) → ((w : Note) → Keeps w m b → Keeps (followed w (noted n g a)) m' b') → Reads n s (g ∷ []) (To c m) b (To c' m') b'
   passed {g} {c} {c'} {m} {m'} {b} {b'} a here u k = record { then-on = go }
     where
       go : (hs : List Goal) (z : Descent) (end : List ℕ) → Leads n s hs (To c' m') b' z end → Leads n s (g ∷ hs) (To c m) b z end
@@ -165,11 +176,11 @@ module _ {n : ℕ} {s : List ℕ} where
       }
 
   -- some goals and then others
-  pub and-then : {gs hs : List Goal} {x y z : Descent} {b b' b'' : List ℕ} → Reads n s gs x b y b' → Reads n s hs y b' z b'' → Reads n s (gs ++ hs) x b z b''
+  and-then : {gs hs : List Goal} {x y z : Descent} {b b' b'' : List ℕ} → Reads n s gs x b y b' → Reads n s hs y b' z b'' → Reads n s (gs ++ hs) x b z b''
   and-then {gs} {hs} {x} {y} {z} {b} {b'} {b''} p q = record { then-on = λ ks u end l. rw (append-assoc gs hs ks) (p .then-on (hs ++ ks) u end (q .then-on ks u end l)) }
 
 -- a node's kind takes nothing of the text
-pub node-reads : {n : ℕ} {s : List ℕ} {k : ℕ} {c : Cursor} {m m' : Met} {b b' : List ℕ} → Noted k 0 m b m' b' → Reads n s (kind k ∷ []) (To c m) b (To c m') b'
+node-reads : {n : ℕ} {s : List ℕ} {k : ℕ} {c : Cursor} {m m' : Met} {b b' : List ℕ} → Noted k 0 m b m' b' → Reads n s (kind k ∷ []) (To c m) b (To c m') b'
 node-reads o = passed tt refl (λ a r q e. e) (o .kept)
 
 -- the goals hs at another place say the same as gs: what they are makes what gs are, and the other way round
@@ -191,13 +202,13 @@ turned {s} {hs} t m b (To c'' m'') end l = record {
 }
 
 -- a place is ahead
-pub ahead-to : {s : List ℕ} {k : ℕ} {c : Cursor} {m : Met} → Beyond s k (c .at) (m .nodes) → Ahead s k (To c m)
+ahead-to : {s : List ℕ} {k : ℕ} {c : Cursor} {m : Met} → Beyond s k (c .at) (m .nodes) → Ahead s k (To c m)
 ahead-to {s} {k} {c} {m} h c' m' e =
     let p : c ≡ c' = cc in
     let q : m ≡ m' = cc in
     rw (← p, ← q) h
 
-pub ahead-out : {s : List ℕ} {k : ℕ} {x : Descent} → x ≡ Out → Ahead s k x
+ahead-out : {s : List ℕ} {k : ℕ} {x : Descent} → x ≡ Out → Ahead s k x
 ahead-out e c m f = impossible (cc)
 
 ahead-less : {s : List ℕ} {j k : ℕ} {x : Descent} → j ≤ k → Ahead s k x → Ahead s j x
@@ -206,25 +217,31 @@ ahead-less h f c m e = let g = f c m e in omega arith
 -- One descent after another.
 
 module _ {n : ℕ} {s : List ℕ} {gs : List Goal} {c : Cursor} {m : Met} {b : List ℕ} where
+  -- behind the goals gs, others
   pub descends-then : {hs : List Goal} {c' : Cursor} {m' : Met} {b' b'' : List ℕ} {y z : Descent} → Descends n s gs c m b y b' → y ≡ To c' m' → Descends n s hs c' m' b' z b'' → Descends n s (gs ++ hs) c m b z b''
   descends-then {c'} {m'} p e q = let h = p .ahead c' m' e in record { reads = and-then (p .reads) (rw e (q .reads)); ahead = ahead-less (omega arith) (q .ahead) }
 
+  -- out, whatever was to follow
   pub descends-out : (hs : List Goal) {b' b'' : List ℕ} {y : Descent} → Descends n s gs c m b y b' → y ≡ Out → Descends n s (gs ++ hs) c m b Out b''
   descends-out hs p e = record { reads = and-then (p .reads) (out-reads e); ahead = ahead-out refl }
 
+  -- a node before the goals gs
   pub noted-then : {k : ℕ} {m' : Met} {b' b'' : List ℕ} {y : Descent} → Noted k 0 m b m' b' → Descends n s gs c m' b' y b'' → Descends n s (kind k ∷ gs) c m b y b''
   noted-then o q = record { reads = and-then (node-reads o) (q .reads); ahead = q .ahead }
 
 -- A closing bracket.
 
-pub closed-out : {s : List ℕ} {x : Descent} → x ≡ Out → Closed-behind s x Out
+-- already out
+pub closed-out : {s : List ℕ} {x : Descent} → x ≡ Out → Closes s x Out
 closed-out e = record { reads = λ n b. out-reads e; ahead = λ k h. ahead-out refl }
 
 module _ {s : List ℕ} {c : Cursor} {m : Met} where
-  pub closed-not : ((r : List ℕ) → drop (c .at) s ≡ 41 ∷ r → ⊥) → Closed-behind s (To c m) Out
+  -- none is there
+  pub closed-not : ((r : List ℕ) → drop (c .at) s ≡ 41 ∷ r → ⊥) → Closes s (To c m) Out
   closed-not f = record { reads = λ n b. refused (λ a. f); ahead = λ k h. ahead-out refl }
 
-  pub closed-to : {next : Cursor} → Between s (c .at) (next .at) (41 ∷ []) → Closed-behind s (To c m) (To next m)
+  -- behind it
+  pub closed-to : {next : Cursor} → Between s (c .at) (next .at) (41 ∷ []) → Closes s (To c m) (To next m)
   closed-to h = record { reads = λ n b. passed tt (h .here) (λ a r q e. tail-eq-of-cons-eq e) (λ w k. rw followed-end k); ahead = λ k f. let g = f c m refl in ahead-to (omega (arith, h)) }
 
 -- Terms.
@@ -244,7 +261,7 @@ module _ {n : ℕ} {s : List ℕ} {d : ℕ} {c : Cursor} {m : Met} {b b' : List 
   term-out f = record { reads = record { then-on = λ hs z end l. rw l (λ g r e. let t = made n d hs g r in f (tag (t .row)) _ (e ∙ t .is)) }; ahead = ahead-out refl }
 
   -- the term is that of the row, with its closing bracket
-  module _ {k : ℕ} {c' : Cursor} (t : Between s (c .at) (c' .at) (40 ∷ bytes (atom (k ∷ [])))) {y z : Descent} (l : Closed-behind s y z) where
+  module _ {k : ℕ} {c' : Cursor} (t : Between s (c .at) (c' .at) (40 ∷ bytes (atom (k ∷ [])))) {y z : Descent} (l : Closes s y z) where
     term-reads : Branch n s d k c' m b y b' → Reads n s (one-term d ∷ []) (To c m) b z b'
     term-reads (row x e r) = record { then-on = λ hs u end g. turned (turns hs) m b u end (rw append-assoc at (and-then (r .reads) (l .reads n b') .then-on hs u end g)) }
       where
@@ -276,6 +293,7 @@ pub record Looping (n : ℕ) (s : List ℕ) (d : ℕ) (c₀ : Cursor) (m₀ : Me
   pub same-long : length b ≡ length b₀
   pub beyond : Beyond s (c₀ .at) (c .at) (m .nodes)
 
+-- no member is passed yet
 pub loop-start : {n : ℕ} {s : List ℕ} {d : ℕ} {c c' : Cursor} {m : Met} {b : List ℕ} → Between s (c .at) (c' .at) (40 ∷ []) → Ready n d c m → Looping n s d c' m b c' m b
 loop-start h r = record { more = λ hs z end l. l; same-long = refl; beyond = omega arith }
 
@@ -283,6 +301,7 @@ loop-start h r = record { more = λ hs z end l. l; same-long = refl; beyond = om
 opened : {n : ℕ} {s : List ℕ} {d : ℕ} {c c' : Cursor} {m : Met} {b b' : List ℕ} {y : Descent} → Between s (c .at) (c' .at) (40 ∷ []) → Reads n s (members d ∷ []) (To c' m) b y b' → Reads n s (bracket 40 ∷ members d ∷ []) (To c m) b y b'
 opened h r = and-then (passed tt (h .here) (λ a r q e. tail-eq-of-cons-eq e) (λ w k. rw followed-end k)) r
 
+-- no opening bracket, no program
 pub program-none : {n : ℕ} {s : List ℕ} {d : ℕ} {c : Cursor} {m : Met} {b b' : List ℕ} → ((r : List ℕ) → drop (c .at) s ≡ 40 ∷ r → ⊥) → Descends n s (bracket 40 ∷ members d ∷ []) c m b Out b'
 program-none f = record { reads = refused (λ a. f); ahead = ahead-out refl }
 
@@ -301,15 +320,18 @@ module _ {n : ℕ} {s : List ℕ} {d : ℕ} {c₀ : Cursor} {m₀ : Met} {b₀ :
         let turns : Turns n s (members d ∷ hs) (kind 1 ∷ one-term d ∷ members d ∷ hs) c c = record { before = []; here = refl; make = program-of n d hs; spell = program-spelled n d hs; tell = program-noted n d hs; back = λ a r e. member n d hs a (drop (c .at) s) r f e } in
         l .more hs z end (turned turns m b z end (and-then (node-reads o) (t .reads) .then-on (members d ∷ hs) z end g))
 
+    -- it is no term
     pub program-out : {c'' : Cursor} → Between s (c'' .at) (c₀ .at) (40 ∷ []) → y ≡ Out → Descends n s (bracket 40 ∷ members d ∷ []) c'' m₀ b₀ Out b''
     program-out p e = record { reads = opened p (record { then-on = λ hs z end g. one-more-member hs z end (rw e g) }); ahead = ahead-out refl }
 
+    -- it is passed
     pub loop-again : {c' : Cursor} {m'' : Met} → y ≡ To c' m'' → length b' ≡ length b → length b'' ≡ length b' → Looping n s d c₀ m₀ b₀ c' m'' b''
     loop-again {c'} {m''} e p q = let h = t .ahead c' m'' e in record { more = λ hs z end g. one-more-member hs z end (rw e g); same-long = omega (arith, l .same-long); beyond = omega (arith, l .beyond) }
 
 -- An N.
 
 module _ {s : List ℕ} {c : Cursor} {m : Met} {k below d : ℕ} where
+  -- no atom is there
   pub number-out : {b b' : List ℕ} → ((a r : List ℕ) → drop (c .at) s ≡ bytes (atom a) ++ r → ⊥) → (n : ℕ) → Descends n s (number k below d ∷ []) c m b Out b'
   number-out f n = record { reads = refused f; ahead = ahead-out refl }
 
@@ -317,13 +339,16 @@ module _ {s : List ℕ} {c : Cursor} {m : Met} {k below d : ℕ} where
     number-to : {m' : Met} → m' .nodes ≡ m .nodes + 1 → ((w : Note) → Keeps w m b → Keeps (followed w (number-note k below d (take len (drop place s)))) m' b') → (n : ℕ) → Descends n s (number k below d ∷ []) c m b (To next m') b'
     number-to e f n = record { reads = passed (take len (drop place s)) (a .between .here) (λ q r t g. bytes-prefix (atom (take len (drop place s))) (atom q) r t g .1) f; ahead = ahead-to (omega arith) }
 
+    -- it is no number in range
     pub number-bad : NumberIs (take len (drop place s)) below Bad → b' ≡ b → (n : ℕ) → Descends n s (number k below d ∷ []) c m b (To next (record { nodes = m .nodes + 1; bad = true; loose = m .loose })) b'
     number-bad h e = number-to refl (λ w g. rw (note-unread k d h, e) (keep-bad k _ _ w g))
 
     module _ {v : ℕ} {m' : Met} (h : NumberIs (take len (drop place s)) below (Is v)) (o : Noted k v m b m' b') where
+      -- it is an index beyond its binders
       pub number-loose : k ≡ 2 → d ≤ v → (n : ℕ) → Descends n s (number k below d ∷ []) c m b (To next (record { nodes = m' .nodes; bad = m' .bad; loose = true })) b'
       number-loose e l = number-to (o .one-more) (λ w g. rw (note-read k d true h (rw (e, le-leb d v l))) (keep-loose k v w (o .kept w g)))
 
+      -- it is no index, or one with its binder
       pub number-bound : (k ≡ 2 → v < d) → (n : ℕ) → Descends n s (number k below d ∷ []) c m b (To next m') b'
       number-bound f = number-to (o .one-more) (λ w g. rw (note-read k d false h (go (eqb k 2) refl)) (o .kept w g))
         where

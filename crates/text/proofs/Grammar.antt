@@ -4,7 +4,7 @@ use mathlib.Core.Path.{_≡_, refl, sym, ap, ap₂, _∙_}
 use mathlib.Core.Logic.{_↔_}
 use mathlib.Core.Bool.{Bool, true, false, not, _||_, _&&_, or-assoc, or-false}
 use mathlib.Core.List.{List, [], _∷_, _++_, append-assoc, append-nil, tail-eq-of-cons-eq}
-use Prim.Native.Nat.{ℕ, suc, _+_, _<_}
+use Prim.Native.Nat.{ℕ, _+_, _<_}
 use native.Mathlib.Numerals.{add-one}
 use native.Mathlib.Omega.{arith}
 use lib.Dec.{eqb, ltb, leb}
@@ -33,6 +33,7 @@ pub data Row : Type 0 where
   code located opened : Row
   pair : Pair → Row
 
+-- the byte that announces a row
 abbrev pub tag : Row → ℕ
 tag (leaf l) = leafTag l
 tag code = 108
@@ -83,14 +84,19 @@ no-row-tag h (pair app) = h .0 .0 .1
 no-row-tag h (pair guard) = h .0 .1
 no-row-tag h (pair unif) = h .1
 
+-- Notes and bytes put together.
+
+-- what is noted one after the other
 pub followed-assoc : (u v w : Note) → followed (followed u v) w ≡ followed u (followed v w)
 unfolding followed
 followed-assoc u v w = λ i. record { numbers = append-assoc (u .numbers) (v .numbers) (w .numbers) i; bad = or-assoc (u .bad) (v .bad) (w .bad) i; loose = or-assoc (u .loose) (v .loose) (w .loose) i }
 
+-- nothing noted before it
 pub followed-none : (w : Note) → followed no-node w ≡ w
 unfolding followed
 followed-none w = refl
 
+-- nothing noted behind it
 pub followed-end : (w : Note) → followed w no-node ≡ w
 unfolding followed
 followed-end w = λ i. record { numbers = append-nil (w .numbers) i; bad = or-false (w .bad) i; loose = or-false (w .loose) i }
@@ -109,6 +115,8 @@ nothing-spelled r = refl
 
 ruleset spellings = (list-spelled, more-spelled, nothing-spelled, append-assoc)
 
+-- Terms and programs before other goals hs.
+
 module _ (n d : ℕ) (hs : List Goal) where
   -- what is to be read behind a tag, and then hs
   abbrev pub Behind : Row → Type 0
@@ -122,6 +130,7 @@ module _ (n d : ℕ) (hs : List Goal) where
   term-of opened f = (raw-fresh (f .1 .0), f .1 .1 .1)
   term-of (pair o) f = (raw-two o (f .1 .0) (f .1 .1 .0), f .1 .1 .1 .1)
 
+  -- its bytes are the tag and theirs
   pub term-spelled : (x : Row) (f : Behind x) → spelled-all (one-term d ∷ hs) (term-of x f) ≡ 40 ∷ bytes (atom (tag x ∷ [])) ++ spelled-all (parts n d x ++ (bracket 41 ∷ hs)) f
   unfolding encode
   term-spelled (leaf l) f = simp spellings
@@ -130,6 +139,7 @@ module _ (n d : ℕ) (hs : List Goal) where
   term-spelled opened f = simp spellings
   term-spelled (pair o) f = simp spellings
 
+  -- and what is noted of it is what is noted of them
   pub term-noted : (x : Row) (f : Behind x) → noted-all n (one-term d ∷ hs) (term-of x f) ≡ noted-all n (parts n d x ++ (bracket 41 ∷ hs)) f
   unfolding note
   term-noted (leaf l) f = simp followed-none
@@ -164,6 +174,7 @@ module _ (n d : ℕ) (hs : List Goal) where
     pub behind : Behind row
     pub rest : l ≡ spelled-all (parts n d row ++ (bracket 41 ∷ hs)) behind ++ r
 
+  -- a tag says so
   pub tagged : (k : ℕ) (l r : List ℕ) (f : Fills (one-term d ∷ hs)) → 40 ∷ bytes (atom (k ∷ [])) ++ l ≡ spelled-all (one-term d ∷ hs) f ++ r → Tagged k l r
   tagged k l r f e =
       let m = made f r in
@@ -178,14 +189,17 @@ module _ (n d : ℕ) (hs : List Goal) where
   abbrev pub program-of : Member → Fills (members d ∷ hs)
   program-of f = (raw-alt (f .1 .0) (f .1 .1 .0), f .1 .1 .1)
 
+  -- with their bytes
   pub program-spelled : (f : Member) → spelled-all (members d ∷ hs) (program-of f) ≡ spelled-all (kind 1 ∷ one-term d ∷ members d ∷ hs) f
   unfolding encode
   program-spelled f = simp spellings
 
+  -- and their notes
   pub program-noted : (f : Member) → noted-all n (members d ∷ hs) (program-of f) ≡ noted-all n (kind 1 ∷ one-term d ∷ members d ∷ hs) f
   unfolding note
   program-noted f = simp followed-assoc
 
+  -- where no closing bracket is, a program has a member
   pub member : (f : Fills (members d ∷ hs)) (l r : List ℕ) → ((q : List ℕ) → l ≡ 41 ∷ q → ⊥) → l ≡ spelled-all (members d ∷ hs) f ++ r → (g : Member) × (l ≡ spelled-all (kind 1 ∷ one-term d ∷ members d ∷ hs) g ++ r)
   unfolding bytes encode
   member (raw-empty, f) l r h e = absurd (h (spelled-all hs f ++ r) e)
@@ -212,7 +226,8 @@ number-read below v b h e =
     let g : number-of b ≡ v = ap number-of e ∙ number-of-decimal v in
     (g, rw (g, lt-ltb v below h, e) (same-refl (decimal v)))
 
-pub is-read : (below : ℕ) (b : List ℕ) → is-number below b ≡ true → (number-of b < below) × (decimal (number-of b) ≡ b)
+-- and they are the decimal of that alone
+is-read : (below : ℕ) (b : List ℕ) → is-number below b ≡ true → (number-of b < below) × (decimal (number-of b) ≡ b)
 unfolding is-number
 is-read below b e = let h = both-true (ltb (number-of b) below) (same (decimal (number-of b)) b) e in (ltb-true (number-of b) below (h .0), same-true (decimal (number-of b)) b (h .1))
 
@@ -223,10 +238,12 @@ none-read below b f = go (is-number below b) refl
     go true e = let h = is-read below b e in absurd (f (number-of b) (h .0) (sym (h .1)))
     go false e = e
 
+-- a node whose N is read
 pub note-read : {below v : ℕ} {b : List ℕ} (k d : ℕ) (l : Bool) → NumberIs b below (Is v) → (eqb k 2 && leb d v) ≡ l → number-note k below d b ≡ node-note k v false l
 unfolding number-note
 note-read {below} {v} {b} k d l (is _ h e) f = let g = number-read below v b h e in rw (g .0, g .1, f)
 
+-- a node whose N is bad
 pub note-unread : {below : ℕ} {b : List ℕ} (k d : ℕ) → NumberIs b below Bad → number-note k below d b ≡ node-note k (number-of b) true (eqb k 2 && leb d (number-of b))
 unfolding number-note
 note-unread {below} {b} k d (bad f) = rw (none-read below b f)
@@ -277,6 +294,7 @@ fresh-told : {d : ℕ} {u : Tree term} {w : Note} → Told (d + 1) u w → Told 
 unfolding preorder followed
 fresh-told t = record { good = t .good; stands = rw (t .stands); binds = rw add-one at (t .binds) }
 
+-- of every tree in range
 pub told : {s : Sort} (n d : ℕ) (t : Tree s) → InRange n t → Told d t (note n d (raw t))
 unfolding note raw preorder followed
 told n d empty h = record { good = refl; stands = refl; binds = (λ e. tt, λ c. refl) }
@@ -307,6 +325,7 @@ leaf-treed bound-leaf n b h = record { tree = bound (number-of b); ranges = h .0
 leaf-treed free-leaf n b h = record { tree = free (number-of b); ranges = h .0; is = ap (raw-leaf free-leaf) (h .1) }
 leaf-treed con-leaf n b h = record { tree = con (number-of b); ranges = h .0; is = ap (raw-leaf con-leaf) (h .1) }
 
+-- there is one
 pub treed : {s : Sort} (n d : ℕ) (r : Raw s) → note n d r .bad ≡ false → Treed n r
 unfolding note raw followed number-note
 treed n d raw-empty e = record { tree = empty; ranges = tt; is = refl }

@@ -2,7 +2,7 @@
 use mathlib.Core.Path.{_≡_}
 use mathlib.Core.Bool.{Bool, true, false, not, _||_, _&&_}
 use mathlib.Core.List.{List, [], _∷_, _++_}
-use Prim.Native.Nat.{ℕ, suc, _+_, _*_, _≤_, _<_}
+use Prim.Native.Nat.{ℕ, _+_, _*_, _≤_, _<_}
 use lib.Dec.{eqb, ltb, leb}
 use lib.ListN.{length, take, drop}
 use Rattle.calculus.specs.Tree.{Sort, term, program, pairKind}
@@ -67,6 +67,7 @@ node-note k v bad loose = record { numbers = k ∷ v ∷ []; bad = bad; loose = 
 unfoldable pub followed : Note → Note → Note
 followed v w = record { numbers = v .numbers ++ w .numbers; bad = v .bad || w .bad; loose = v .loose || w .loose }
 
+-- the bytes are the same
 unfoldable pub same : List ℕ → List ℕ → Bool
 same [] [] = true
 same [] (b ∷ q) = false
@@ -81,6 +82,7 @@ is-number below b = ltb (number-of b) below && same (decimal (number-of b)) b
 unfoldable pub number-note : ℕ → ℕ → ℕ → List ℕ → Note
 number-note k below d b = node-note k (number-of b) (not (is-number below b)) (eqb k 2 && leb d (number-of b))
 
+-- the kinds and the bounds of the three leaves
 abbrev pub leaf-kind : Leaf → ℕ
 leaf-kind bound-leaf = 2
 leaf-kind free-leaf = 3
@@ -101,7 +103,7 @@ note n d (raw-at b p) = followed (number-note 6 n d b) (note n (d + 1) p)
 note n d (raw-fresh t) = followed (node-note 8 0 false false) (note n (d + 1) t)
 note n d (raw-two o t u) = followed (node-note (pairKind o) 0 false false) (followed (note n d t) (note n d u))
 
--- what the code keeps of it: the count, whether an N was bad, and until then whether an index had no binder, and the nodes in the build table if it holds them
+-- what the code keeps of it: the count and whether an N was bad; until one is, whether an index had no binder, and the nodes at the front of the build table if it holds them
 pub record Keeps (w : Note) (m : Met) (build : List ℕ) : Type 0 where
   pub count : 2 * m .nodes ≡ length (w .numbers)
   pub bad-so-far : m .bad ≡ w .bad
@@ -124,6 +126,7 @@ pub data Goal : Type 0 where
   one-term : ℕ → Goal
   members : ℕ → Goal
 
+-- what it can be, with an arbitrary atom for an N
 abbrev pub Fill : Goal → Type 0
 Fill (kind k) = Unit {0}
 Fill (number k below d) = List ℕ
@@ -131,6 +134,7 @@ Fill (bracket k) = Unit {0}
 Fill (one-term d) = Raw term
 Fill (members d) = Raw program
 
+-- its bytes
 abbrev pub spelled : (g : Goal) → Fill g → List ℕ
 spelled (kind k) f = []
 spelled (number k below d) f = bytes (atom f)
@@ -138,6 +142,7 @@ spelled (bracket k) f = k ∷ []
 spelled (one-term d) f = bytes (encode f)
 spelled (members d) f = bytes (encode f) ++ (41 ∷ [])
 
+-- what is noted of it under the limit n
 abbrev pub noted : ℕ → (g : Goal) → Fill g → Note
 noted n (kind k) f = node-note k 0 false false
 noted n (number k below d) f = number-note k below d f
@@ -180,10 +185,11 @@ pub record Beyond (s : List ℕ) (k at nodes : ℕ) : Type 0 where
   pub within : at ≤ length s
   pub few : nodes ≤ at
 
+-- out, or such a place
 abbrev pub Ahead : List ℕ → ℕ → Descent → Type 0
 Ahead s k x = (c : Cursor) (m : Met) → x ≡ To c m → Beyond s k (c .at) (m .nodes)
 
--- with d binders around it: nothing that is counted can wrap
+-- with d binders around it, so few nodes and binders that nothing wraps
 pub record Ready (n d : ℕ) (c : Cursor) (m : Met) : Type 0 where
   pub small : n < constructors
   pub nested : d ≤ c .at
@@ -194,7 +200,7 @@ pub record Descends (n : ℕ) (s : List ℕ) (gs : List Goal) (c : Cursor) (m : 
   pub reads : Reads n s gs (To c m) build y build'
   pub ahead : Ahead s (c .at + 1) y
 
--- the same for a closing bracket, which asks and leaves nothing else
-pub record Closed-behind (s : List ℕ) (x y : Descent) : Type 0 where
+-- the same for a closing bracket, which leaves the build table alone
+pub record Closes (s : List ℕ) (x y : Descent) : Type 0 where
   pub reads : (n : ℕ) (build : List ℕ) → Reads n s (bracket 41 ∷ []) x build y build
   pub ahead : (k : ℕ) → Ahead s k x → Ahead s k y

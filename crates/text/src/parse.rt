@@ -2,7 +2,7 @@
 ghost use mathlib.Core.List.{[], _∷_};
 ghost use Prim.Native.Nat.{ℕ, _+_, _^_, _<_, _≤_};
 ghost use Rattle.text.specs.Reading.{Parses};
-ghost use Rattle.text.specs.Descent.{Noted, Closed-behind, Ready, Descends, number, bracket, one-term, members};
+ghost use Rattle.text.specs.Descent.{Noted, Closes, Ready, Descends, number, bracket, one-term, members};
 use crate::Parsed;
 use crate::items::Atomic;
 use crate::items::Found;
@@ -29,26 +29,27 @@ pub enum Descent {
     To(Cursor, Met),
 }
 
-// One more node, stored where there is room for it.
+// One more node, stored where there is room for it and counted in any case.
 fn noted(m: Met, kind: u16, number: u16, build: &mut [u16]) -> Met
     requires { ⌜ m .nodes < 2 ^ 63 ⌝ }
     ensures { λ r. ⌜ Noted kind number m (now (build .entry)) r (now (build .exit)) ⌝ }
 {
-    let mut nodes = m.nodes;
-    if nodes < build.len() / 2 {
-        put_node(build, nodes, kind, number);
-    }
-    nodes += 1;
-    Met {
-        nodes,
+    let at = m.nodes;
+    let more = Met {
+        nodes: at + 1,
         bad: m.bad,
         loose: m.loose,
+    };
+    if build.len() / 2 <= at {
+        return more;
     }
+    put_node(build, at, kind, number);
+    more
 }
 
 // Behind the closing bracket, where there is one.
 fn closed(s: &[u8], x: Descent) -> Descent
-    ensures { λ r. ⌜ Closed-behind (now (s .entry)) x r ⌝ }
+    ensures { λ r. ⌜ Closes (now (s .entry)) x r ⌝ }
 {
     let Descent::To(c, m) = x else {
         return Descent::Out;

@@ -2,7 +2,7 @@
 -- The loop's invariant: where the members that are left lead, those from the beginning lead.
 use Prim.Native.Nat.{ℕ, _+_, _*_, _-_, _<_}
 use native.Mathlib.Omega.{arith}
-use mathlib.Core.Path.{_≡_, refl, sym, _∙_, ap}
+use mathlib.Core.Path.{_≡_, refl, _∙_, ap}
 use mathlib.Core.List.{[], _∷_}
 use mathlib.Core.Logic.{⊎-elim}
 use lib.ListN.{length}
@@ -12,7 +12,7 @@ use borrow.Fn.PlainCycle.{Measures, is, falls, and}
 use Rattle.calculus.specs.Tree.{app, guard, unif}
 use Rattle.calculus.specs.Text.{bound-leaf, free-leaf, con-leaf}
 use Rattle.text.specs.declared.items.Tag.the-variants.{Is}
-use Rattle.text.specs.Descent.{bracket, one-term, members, TagAt, Between, Beyond}
+use Rattle.text.specs.Descent.{bracket, one-term, members, TagAt, Between}
 use Rattle.text.proofs.Grammar.{leaf, code, located, opened, pair, no-row-tag}
 use Rattle.text.proofs.Descents.{descends-then, descends-out, noted-then, term-descends, closed-out, Branch, row, no-row, term-out, Looping, loop-start, program-none, program-end, program-out, loop-again}
 use Rattle.text.proofs.parse.read_pair.Reads as read-pair

@@ -1,25 +1,24 @@
 -- `text::parse::noted` meets its contract.
 use borrow.Author.Needs.{needs}
-use mathlib.Core.Path.{_∙_, ap}
-use mathlib.Core.Logic.{⊎-elim}
-use native.Mathlib.Omega.{arith}
-use lib.ListN.{length}
-use Rattle.text.proofs.Descents.{keep-node}
+use mathlib.Core.Path.{refl}
+use Rattle.text.proofs.Descents.{node-stored, node-counted}
 use Rattle.text.proofs.parse.noted.Statement.{statement}
 use Rattle.text.proofs.parse.noted.Tie as tie
+
+add-if1 : tie.Need-add-if1
+add-if1 c = search needs
+
+returns : tie.Need-returns
+returns c = node-counted refl (c .if1 .taken)
 
 put-node-requires : tie.Need-put-node-requires
 put-node-requires c κs = search needs
 
-add-nodes : tie.Need-add-nodes
-add-nodes c = search needs
-
--- the node is stored, or there is no room for it
 same-length : tie.Need-same-length
-same-length c = ⊎-elim (λ w. ap length (w .5) ∙ w .2 .kept .0) (λ w. ap length (w .1)) (c .if1 .came)
+same-length c = search needs
 
-returns : tie.Need-returns
-returns c = keep-node (same-length c) (λ h. ⊎-elim (λ w. w .5 ∙ w .2 .ensures) (λ w. absurd (omega (arith, w .0 .left))) (c .if1 .came))
+returns-2 : tie.Need-returns-2
+returns-2 c = node-stored (c .before .before .put-node .ensures)
 
 pub noted-spec : {M : Type 1} → statement M
-noted-spec = tie.close (tie.spec put-node-requires add-nodes same-length returns)
+noted-spec = tie.close (tie.spec add-if1 returns put-node-requires same-length returns-2)

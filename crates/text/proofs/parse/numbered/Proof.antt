@@ -3,7 +3,7 @@ use borrow.Author.Needs.{needs}
 use mathlib.Core.Path.{refl}
 use mathlib.Core.Logic.{⊎-elim}
 use native.Mathlib.Omega.{arith}
-use borrow.Author.Tests.{leb-true, leb-false}
+use borrow.Author.Tests.{leb-true, leb-false, ltb-true, ltb-false}
 use Rattle.text.specs.Descent.{AtomBetween}
 use Rattle.text.proofs.Descents.{number-out, number-bad, number-loose, number-bound}
 use Rattle.text.proofs.parse.numbered.Statement.{statement}
@@ -50,13 +50,13 @@ same-length : tie.Need-same-length
 same-length c = search needs
 
 returns-3 : tie.Need-returns-3
-returns-3 c = number-loose (there (c .before .before .before .before .before .before .before .before .before .before)) (c .before .before .before .before .before .before .before .before .before .before .before .before .before .before .before .before .pre .1) (rw (c .before .before .before .before .before .before .before .v .given .1) at (c .before .before .before .before .before .before .before .before .before .number-in .ensures)) (c .before .before .before .before .noted .ensures) (c .before .if1 .taken) (leb-true _ _ (c .if2 .taken))
+returns-3 c = number-loose (there (c .before .before .before .before .before .before .before .before .before .before)) (c .before .before .before .before .before .before .before .before .before .before .before .before .before .before .before .before .pre .1) (rw (c .before .before .before .before .before .before .before .v .given .1) at (c .before .before .before .before .before .before .before .before .before .number-in .ensures)) (c .before .before .before .before .noted .ensures) (c .before .if1 .taken) (omega (arith, leb-true, ltb-true))
 
 same-length-2 : tie.Need-same-length-2
 same-length-2 c = search needs
 
 returns-4 : tie.Need-returns-4
-returns-4 c = number-bound (there (c .before .before .before .before .before .before .before .before .before)) (c .before .before .before .before .before .before .before .before .before .before .before .before .before .before .before .pre .1) (rw (c .before .before .before .before .before .before .v .given .1) at (c .before .before .before .before .before .before .before .before .number-in .ensures)) (c .before .before .before .noted .ensures) (λ e. ⊎-elim (λ w. leb-false _ _ (w .1 .left)) (λ w. absurd (w .left e)) (c .if1 .came))
+returns-4 c = number-bound (there (c .before .before .before .before .before .before .before .before .before)) (c .before .before .before .before .before .before .before .before .before .before .before .before .before .before .before .pre .1) (rw (c .before .before .before .before .before .before .v .given .1) at (c .before .before .before .before .before .before .before .before .number-in .ensures)) (c .before .before .before .noted .ensures) (λ e. ⊎-elim (λ w. omega (arith, leb-false, ltb-false)) (λ w. absurd (w .left e)) (c .if1 .came))
 
 pub numbered-spec : {M : Type 1} → statement M
 numbered-spec =
