@@ -119,6 +119,7 @@ by-parse into s (bad r h f) = refused refusal.BadNumber (inr (not-long s, inr (c
 by-parse into s (loose p t f) = refused refusal.NoBinder (past-five s t into refusal.NoBinder (inl ((p, (t, f)), refl)))
 by-parse into s (of-nodes p t c k) = record { scanned = s; tree = p; text-of = t; closed = c; counts = refl; stored = k }
 
+-- so it decides, whatever the answer is known to be
 pub decide : {n : ℕ} {b build : List ℕ} {r x : Parsed} (into : List ℕ) → Scanned n b → r ≡ x → Parses n b build r → Decided n b into build x
 decide into s e h = rw e at (by-parse into s h)
 
