@@ -1,10 +1,13 @@
 // What a switch OS calls: six calls without a `requires`, for the node limit of 2,048. The scratch is theirs, on the stack.
 ghost use mathlib.Core.Path.{_≡_};
-ghost use Rattle.calculus.specs.Answers.{countedValues};
-ghost use Rattle.calculus.specs.Calls.{Reads, Writes};
+ghost use Rattle.calculus.specs.Answers.{countedValues, ranValues, steppedValues, stoodValues};
+ghost use Rattle.calculus.specs.Calls.{Reads, RunsWith, StandsAt, StepsInto, Writes};
 ghost use Rattle.table.specs.Threads.{ThreadPart};
 ghost use Rattle.mespindro.specs.Limit.{limit};
 use calculus::Counted;
+use calculus::Ran;
+use calculus::Stepped;
+use calculus::Stood;
 
 const LIMIT: usize = 2048;
 
@@ -23,6 +26,32 @@ pub fn write(table: &[u16], count: usize, out: &mut [u8]) -> Counted
 {
     let mut scratch = [0u16; 2050];
     text::store::write(table, count, out, LIMIT, &mut scratch)
+}
+
+// Makes a single step of the program in a table: the new program's nodes at the front of the output, or 1, 6, 7, 8, 9, 11.
+pub fn step(table: &[u16], count: usize, out: &mut [u16]) -> Stepped
+    ensures { λ r. ⌜ StepsInto limit (now (table .entry)) count (now (out .entry)) (steppedValues r) (now (out .exit)) ⌝ }
+{
+    let mut links = [0u16; 4096];
+    let mut sizes = [0u16; 2048];
+    step::single::step(table, count, out, LIMIT, &mut links, &mut sizes)
+}
+
+// Runs the program in a table for at most `most` steps: why it stopped, the nodes it left in the table, the steps taken; or 1, 6, 8, 9.
+pub fn run(table: &mut [u16], count: usize, work: &mut [u16], most: u32) -> Ran
+    ensures { λ r. ⌜ RunsWith limit (now (table .entry)) count (now (work .entry)) most (ranValues r) (now (table .exit)) (now (work .exit)) ⌝ }
+{
+    let mut links = [0u16; 4096];
+    let mut sizes = [0u16; 2048];
+    run::run(table, count, work, most, LIMIT, &mut links, &mut sizes)
+}
+
+// How a thread stands, or 1, 6, 8, 10.
+pub fn standing(table: &[u16], count: usize, k: usize) -> Stood
+    ensures { λ r. ⌜ StandsAt limit (now (table .entry)) count k (stoodValues r) ⌝ }
+{
+    let mut scratch = [0u16; 2050];
+    run::standing(table, count, k, LIMIT, &mut scratch)
 }
 
 // The part of the table that is a thread's own, no copy; empty exactly when the standing call refuses.

@@ -1,5 +1,7 @@
 // Runs cases that are not proved as theorems: reads commands, one to a line, and writes an answer to each.
 // A command is a letter, then numbers or a text. A line that is empty or begins with # is passed over; one that is no command is answered ?.
+mod build;
+mod calls;
 mod parse;
 mod show;
 mod tables;
@@ -24,6 +26,13 @@ fn answer(line: &[u8], table: &mut [u16], scratch: &mut [u16])
         b'j' => texts::one_with_newline(line),
         b's' => texts::items(line),
         b'z' => texts::brackets(line),
+        b'r' => calls::read(line),
+        b'R' => calls::read_with_newline(line),
+        b'f' => calls::chain(line),
+        b'm' => calls::alternatives(line),
+        b'y' => calls::noise(line),
+        b'Z' => calls::brackets(line),
+        b'w' => calls::write(line, table),
         _ => show::unread(letter),
     }
 }

@@ -2,6 +2,7 @@
 ghost use mathlib.Core.Path.{_≡_};
 ghost use Rattle.calculus.specs.Answers.{number};
 ghost use Rattle.table.specs.Checks.{checkedNumber};
+use calculus::Counted;
 use calculus::Refusal;
 use csexp::Item;
 use libc::STDOUT_FILENO;
@@ -78,19 +79,52 @@ fn after_blank(n: u16) {
     decimal(n as usize);
 }
 
-// Numbers, with a blank before each, or - where there are none.
+// Numbers, with a blank before each.
+pub fn after_blanks(part: &[u16]) {
+    let mut i: usize = 0;
+    while i < part.len() {
+        after_blank(part[i]);
+        i += 1;
+    }
+}
+
+// The same as an answer, with - where there are none.
 pub fn numbers(letter: u8, part: &[u16]) {
     byte(letter);
     if part.len() == 0 {
         byte(b' ');
         byte(b'-');
     }
-    let mut i: usize = 0;
-    while i < part.len() {
-        after_blank(part[i]);
-        i += 1;
-    }
+    after_blanks(part);
     newline();
+}
+
+// What a read or a write answers, up to the line's end: the refusal's number, or 0, and the count. The count is handed on.
+pub fn counted(letter: u8, x: Counted) -> usize {
+    match x {
+        Counted::Count(n) => {
+            count(letter, 0, n);
+            n
+        }
+        Counted::Refused(r) => {
+            count(letter, refusal_number(r), 0);
+            0
+        }
+    }
+}
+
+fn count(letter: u8, refusal: u8, n: usize) {
+    byte(letter);
+    byte(b' ');
+    decimal(refusal as usize);
+    byte(b' ');
+    decimal(n);
+}
+
+// Bytes as they are, with a blank before them.
+pub fn text(bytes: &[u8]) {
+    byte(b' ');
+    io::write_all(STDOUT_FILENO, bytes);
 }
 
 // An item, with a blank before it: a bracket, or place:length.

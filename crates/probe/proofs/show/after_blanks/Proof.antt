@@ -2,23 +2,14 @@
 use Prim.Native.Nat.{_≤_, _-_}
 use lib.ListN.{length}
 use borrow.Author.Needs.{needs}
-use Rattle.probe.proofs.show.numbers.Statement.{statement}
-use Rattle.probe.proofs.show.numbers.Tie as tie
+use Rattle.probe.proofs.show.after_blanks.Statement.{statement}
+use Rattle.probe.proofs.show.after_blanks.Tie as tie
 
 abbrev Inv-loop : tie.InvT-loop
-Inv-loop letter part i₀ i = i ≤ length part
+Inv-loop part i₀ i = i ≤ length part
 
 abbrev μ-loop : tie.MeasureT-loop
-μ-loop letter part i₀ i = length part - i
-
-byte-requires : tie.Need-byte-requires Inv-loop μ-loop
-byte-requires c κs = search needs
-
-byte-requires-2 : tie.Need-byte-requires-2 Inv-loop μ-loop
-byte-requires-2 c κs = search needs
-
-byte-requires-3 : tie.Need-byte-requires-3 Inv-loop μ-loop
-byte-requires-3 c κs = search needs
+μ-loop part i₀ i = length part - i
 
 loop-holds : tie.Need-loop-holds Inv-loop μ-loop
 loop-holds c = search needs
@@ -41,21 +32,15 @@ loop-less c = search needs
 loop-again : tie.Need-loop-again Inv-loop μ-loop
 loop-again c = search needs
 
-newline-requires : tie.Need-newline-requires Inv-loop μ-loop
-newline-requires c κs = search needs
-
 returns : tie.Need-returns Inv-loop μ-loop
 returns c = search needs
 
-pub numbers-spec : {M : Type 1} → statement M
-numbers-spec =
+pub after-blanks-spec : {M : Type 1} → statement M
+after-blanks-spec =
     tie.close
     (tie.spec
     Inv-loop
     μ-loop
-    byte-requires
-    byte-requires-2
-    byte-requires-3
     loop-holds
     mul-after-blank
     shared-slice-read-after-blank
@@ -63,5 +48,4 @@ numbers-spec =
     add-i
     loop-less
     loop-again
-    newline-requires
     returns)
