@@ -3,6 +3,7 @@
 mod build;
 mod calls;
 mod parse;
+mod runs;
 mod show;
 mod tables;
 mod texts;
@@ -33,6 +34,9 @@ fn answer(line: &[u8], table: &mut [u16], scratch: &mut [u16])
         b'y' => calls::noise(line),
         b'Z' => calls::brackets(line),
         b'w' => calls::write(line, table),
+        b'x' => runs::run(line),
+        b'1' => runs::step(line),
+        b'h' => runs::standing(line),
         _ => show::unread(letter),
     }
 }

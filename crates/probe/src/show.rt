@@ -3,7 +3,9 @@ ghost use mathlib.Core.Path.{_≡_};
 ghost use Rattle.calculus.specs.Answers.{number};
 ghost use Rattle.table.specs.Checks.{checkedNumber};
 use calculus::Counted;
+use calculus::Reason;
 use calculus::Refusal;
+use calculus::Standing;
 use csexp::Item;
 use libc::STDOUT_FILENO;
 use table::Checked;
@@ -53,8 +55,7 @@ pub fn newline() {
 // An answer that is one number.
 pub fn answer(letter: u8, n: usize) {
     byte(letter);
-    byte(b' ');
-    decimal(n);
+    amount(n);
     newline();
 }
 
@@ -74,9 +75,14 @@ pub fn unread(letter: u8) {
     newline();
 }
 
-fn after_blank(n: u16) {
+// A number, with a blank before it.
+pub fn amount(n: usize) {
     byte(b' ');
-    decimal(n as usize);
+    decimal(n);
+}
+
+fn after_blank(n: u16) {
+    amount(n as usize);
 }
 
 // Numbers, with a blank before each.
@@ -115,16 +121,37 @@ pub fn counted(letter: u8, x: Counted) -> usize {
 
 fn count(letter: u8, refusal: u8, n: usize) {
     byte(letter);
-    byte(b' ');
-    decimal(refusal as usize);
-    byte(b' ');
-    decimal(n);
+    amount(refusal as usize);
+    amount(n);
 }
 
 // Bytes as they are, with a blank before them.
 pub fn text(bytes: &[u8]) {
     byte(b' ');
     io::write_all(STDOUT_FILENO, bytes);
+}
+
+// The rest of an answer where a text is refused.
+pub fn refused(x: Refusal) {
+    text(b"refused");
+    amount(refusal_number(x) as usize);
+    newline();
+}
+
+pub fn reason(x: Reason) {
+    match x {
+        Reason::Ended => text(b"ended"),
+        Reason::Steps => text(b"steps"),
+        Reason::Room => text(b"room"),
+    }
+}
+
+pub fn standing(x: Standing) {
+    match x {
+        Standing::Answer => text(b"answer"),
+        Standing::Stuck => text(b"stuck"),
+        Standing::Open => text(b"open"),
+    }
 }
 
 // An item, with a blank before it: a bracket, or place:length.
