@@ -1,4 +1,6 @@
 // The number types and the answers that the calls share. What they mean stands in specs/Answers.antt.
+ghost use mathlib.Core.Path.{_≡_};
+ghost use Rattle.calculus.specs.Answers.{number, reasonCode, standingCode};
 
 // Document 003 keeps variables, locations and constructors as three disjoint sets: a number of one never stands for a number of another.
 pub struct Var(pub u16);
@@ -58,4 +60,45 @@ pub enum Ran {
 pub enum Stood {
     Stands(Standing),
     Refused(Refusal),
+}
+
+// Document 01's number of a refusal.
+pub fn refusal_number(x: Refusal) -> u16
+    ensures { λ r. ⌜ r ≡ number x ⌝ }
+{
+    match x {
+        Refusal::NoProgram => 1,
+        Refusal::TooLong => 2,
+        Refusal::NotCanonical => 3,
+        Refusal::OutOfPlace => 4,
+        Refusal::BadNumber => 5,
+        Refusal::NoBinder => 6,
+        Refusal::TooManyNodes => 7,
+        Refusal::Incoherent => 8,
+        Refusal::NoRoom => 9,
+        Refusal::NoThread => 10,
+        Refusal::Finished => 11,
+    }
+}
+
+// The code of a reason, for callers in C.
+pub fn reason_code(x: Reason) -> u16
+    ensures { λ r. ⌜ r ≡ reasonCode x ⌝ }
+{
+    match x {
+        Reason::Ended => 1,
+        Reason::Steps => 2,
+        Reason::Room => 3,
+    }
+}
+
+// The code of a standing, for callers in C.
+pub fn standing_code(x: Standing) -> u16
+    ensures { λ r. ⌜ r ≡ standingCode x ⌝ }
+{
+    match x {
+        Standing::Answer => 1,
+        Standing::Stuck => 2,
+        Standing::Open => 3,
+    }
 }

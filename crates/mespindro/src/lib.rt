@@ -1,4 +1,6 @@
 // What a switch OS calls: six calls without a `requires`, for the node limit of 2,048. The scratch is theirs, on the stack.
+pub mod exports;
+
 ghost use mathlib.Core.Path.{_≡_};
 ghost use Rattle.calculus.specs.Answers.{countedValues, ranValues, steppedValues, stoodValues};
 ghost use Rattle.calculus.specs.Calls.{Reads, RunsWith, StandsAt, StepsInto, Writes};

@@ -18,7 +18,7 @@ use Rattle.calculus.proofs.Preorders.{nodes-positive, threads-of-program}
 use Rattle.calculus.proofs.Substitutes.{impossible}
 use Rattle.table.specs.Nodes.{Stands}
 use Rattle.table.specs.Checks.{Walks, nothing, loose, scoped, OneBody, ProgramIn, ThreadsAgree, checkedNumber, Checks, admitted, refused}
-use Rattle.table.specs.Threads.{ProgramAt, PlaceOf, from, missing}
+use Rattle.table.specs.Threads.{ProgramAt, PlaceOf, from, missing, SpanOf}
 use Rattle.table.specs.declared.Walked.{Walked}
 use Rattle.table.specs.declared.Walked.the-variants.{NoProgram, Loose, Scoped}
 use Rattle.table.specs.declared.Checked.{Checked}
@@ -152,7 +152,7 @@ pub record AdmittedIn (n : ℕ) (t : List ℕ) (count : ℕ) : Type 0 where
 pub record PartIn (n : ℕ) (t : List ℕ) (count k i e : ℕ) : Type 0 where
   pub order : i ≤ e
   pub fits : 2 * e ≤ length t
-  pub holds : PartAt n t count k (2 * i) (take (2 * e - 2 * i) (drop (2 * i) t))
+  pub span : SpanOf n t count k (2 * i) (2 * (e - i))
 
 -- the last refusal of the thread call
 abbrev no-thread : ℕ → List ℕ → ℕ → ℕ → Refusals
@@ -182,8 +182,8 @@ module _ {n : ℕ} {t : List ℕ} {count : ℕ} where
       go (refused s g) e = (s, (e, g))
 
   -- then there is no part
-  pub part-refused : {r : Checked} {q : Refusal} (k : ℕ) → r ≡ Refused q → Checks n t count (checkedNumber r) → PartAt n t count k 0 []
-  part-refused k e h = let s = refused-there e h in no-part (s .0) (refuses-early (no-thread n t count k) (table-refusals n t count) (s .0) (s .1 .1))
+  pub part-refused : {r : Checked} {q : Refusal} (k : ℕ) → r ≡ Refused q → Checks n t count (checkedNumber r) → SpanOf n t count k 0 0
+  part-refused k e h = let s = refused-there e h in record { holds = no-part (s .0) (refuses-early (no-thread n t count k) (table-refusals n t count) (s .0) (s .1 .1)); within = omega arith }
 
 module _ {n : ℕ} {t : List ℕ} {count : ℕ} (a : AdmittedIn n t count) where
   -- it stands at the front
@@ -194,9 +194,10 @@ module _ {n : ℕ} {t : List ℕ} {count : ℕ} (a : AdmittedIn n t count) where
   this-one {p} h = rw (one-tree p (a .program-there) h (table-stands (a .table-of))) (a .table-of)
 
   -- there are not so many threads
-  pub part-missing : {k : ℕ} {r : Place} → r ≡ Missing → PlaceOf t k r → PartAt n t count k 0 []
+  pub part-missing : {k : ℕ} {r : Place} → r ≡ Missing → PlaceOf t k r → SpanOf n t count k 0 0
   part-missing e (from before x after h l) = impossible (cc)
-  part-missing {k} e (missing p h l) = no-part refusal.NoThread (refuses-late (no-thread n t count k) (table-refusals n t count) refusal.NoThread (a .accepts) (inl ((p, (this-one h, l)), refl)))
+  part-missing {k} e (missing p h l) =
+      record { holds = no-part refusal.NoThread (refuses-late (no-thread n t count k) (table-refusals n t count) refusal.NoThread (a .accepts) (inl ((p, (this-one h, l)), refl))); within = omega arith }
 
   -- a thread's own nodes
   pub part-there : {k i e : ℕ} {r : Place} → r ≡ From i e → PlaceOf t k r → PartIn n t count k i e
@@ -207,11 +208,18 @@ module _ {n : ℕ} {t : List ℕ} {count : ℕ} (a : AdmittedIn n t count) where
       let o : ThreadOf n t count k x = record { before = before; after = after; table-of = this-one h; place = l } in
       let enough : (p : Tree program) × (TableOf n t count p × (length (threads p) ≤ k)) → ⊥ =
       λ m. omega (arith, m .1 .1, length-append before (x ∷ after), ap length (ap threads (table-of-unique (m .1 .0) (o .table-of)) ∙ threads-of-program (before ++ (x ∷ after)))) in
-      let d : 2 * e - 2 * i ≡ 2 * nodes x = omega arith in
+      let d : 2 * (e - i) ≡ 2 * nodes x = omega arith in
       let b = ends-in w in
       record {
         order = omega arith;
         fits = omega arith;
-        holds = rw (d, own-part w, ← start) (part x (accepts-both (no-thread n t count k) (table-refusals n t count) (a .accepts) (enough, tt)) o);
+        span = record {
+          holds = rw (d, own-part w, ← start) (part x (accepts-both (no-thread n t count k) (table-refusals n t count) (a .accepts) (enough, tt)) o);
+          within = omega arith;
+        };
       }
   part-there q (missing p h l) = impossible (cc)
+
+-- the part as it is lent, from its first number to before its last one's next
+pub span-part : {n : ℕ} {t : List ℕ} {count k start many : ℕ} → SpanOf n t count k start many → PartAt n t count k start (take (start + many - start) (drop start t))
+span-part {start = start} {many} h = let e : start + many - start ≡ many = omega arith in rw e (h .holds)

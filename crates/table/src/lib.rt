@@ -26,3 +26,9 @@ pub enum Place {
     From(usize, usize),
     Missing,
 }
+
+// A part of a table: its first number, and how many numbers.
+pub struct Span {
+    pub start: usize,
+    pub length: usize,
+}

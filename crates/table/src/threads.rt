@@ -3,9 +3,10 @@ ghost use mathlib.Core.Path.{_≡_};
 ghost use Prim.Native.Nat.{_+_, _*_};
 ghost use lib.ListN.{length};
 ghost use Rattle.table.specs.Checks.{in-force};
-ghost use Rattle.table.specs.Threads.{ProgramAt, PlaceOf, ThreadPart};
+ghost use Rattle.table.specs.Threads.{ProgramAt, PlaceOf, SpanOf, ThreadPart};
 use crate::Checked;
 use crate::Place;
+use crate::Span;
 use crate::check::check;
 use crate::nodes::end_of;
 use crate::nodes::node_at;
@@ -32,7 +33,29 @@ pub fn place_of(t: &[u16], k: usize) -> Place
     }
 }
 
-// The thread's own part of the table, no copy: its term's nodes, without the alternative node. Empty exactly when the standing call refuses.
+// Where the thread's own part of the table is, its term's nodes without the alternative node. Empty exactly when the standing call refuses.
+pub fn span_of(t: &[u16], count: usize, k: usize, limit: usize, scratch: &mut [u16]) -> Span
+    ensures { λ r. ⌜ SpanOf (in-force limit (length (now (scratch .entry)))) (now (t .entry)) count k (r .start) (r .length) ⌝ }
+{
+    let Checked::Admitted = check(t, count, limit, scratch) else {
+        return Span {
+            start: 0,
+            length: 0,
+        };
+    };
+    let Place::From(start, end) = place_of(t, k) else {
+        return Span {
+            start: 0,
+            length: 0,
+        };
+    };
+    Span {
+        start: 2 * start,
+        length: 2 * (end - start),
+    }
+}
+
+// The thread's own part of the table, no copy.
 pub fn thread<'a>(
     t: &'a [u16],
     count: usize,
@@ -42,13 +65,8 @@ pub fn thread<'a>(
 ) -> &'a [u16]
     ensures { λ r. ⌜ ThreadPart (in-force limit (length (now (scratch .entry)))) (now (t .entry)) count k (t .entry .ptr .0) (t .entry .ptr .1) (r .ptr .0) (r .ptr .1) (now r) ⌝ }
 {
-    let Checked::Admitted = check(t, count, limit, scratch) else {
-        return &t[0..0];
-    };
-    let Place::From(start, end) = place_of(t, k) else {
-        return &t[0..0];
-    };
-    let a = 2 * start;
-    let e = 2 * end;
-    &t[a..e]
+    let span = span_of(t, count, k, limit, scratch);
+    let start = span.start;
+    let end = start + span.length;
+    &t[start..end]
 }

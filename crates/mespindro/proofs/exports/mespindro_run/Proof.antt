@@ -1,0 +1,24 @@
+-- `mespindro::exports::mespindro_run` meets its contract: it is the call `run`.
+use borrow.Author.Needs.{needs}
+use Rattle.mespindro.proofs.Told.{runs-told}
+use Rattle.mespindro.proofs.exports.mespindro_run.Statement.{statement}
+use Rattle.mespindro.proofs.exports.mespindro_run.Tie as tie
+
+run-requires : tie.Need-run-requires
+run-requires c κs = search needs
+
+stop-of-requires : tie.Need-stop-of-requires
+stop-of-requires c κs = search needs
+
+same-length : tie.Need-same-length
+same-length c = search needs
+
+same-length-2 : tie.Need-same-length-2
+same-length-2 c = search needs
+
+returns : tie.Need-returns
+returns c = runs-told (c .stop-of .ensures) (c .before .before .before .before .before .run .ensures)
+
+pub mespindro-run-spec : {M : Type 1} → statement M
+mespindro-run-spec =
+    tie.close (tie.spec run-requires stop-of-requires same-length same-length-2 returns)

@@ -1,0 +1,20 @@
+-- `mespindro::exports::mespindro_step` meets its contract: it is the call `step`.
+use borrow.Author.Needs.{needs}
+use Rattle.mespindro.proofs.Told.{steps-told}
+use Rattle.mespindro.proofs.exports.mespindro_step.Statement.{statement}
+use Rattle.mespindro.proofs.exports.mespindro_step.Tie as tie
+
+step-requires : tie.Need-step-requires
+step-requires c κs = search needs
+
+step-count-of-requires : tie.Need-step-count-of-requires
+step-count-of-requires c κs = search needs
+
+same-length : tie.Need-same-length
+same-length c = search needs
+
+returns : tie.Need-returns
+returns c = steps-told (c .step-count-of .ensures) (c .before .before .before .step .ensures)
+
+pub mespindro-step-spec : {M : Type 1} → statement M
+mespindro-step-spec = tie.close (tie.spec step-requires step-count-of-requires same-length returns)

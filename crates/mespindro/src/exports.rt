@@ -1,0 +1,161 @@
+// The six calls as C sees them: slices are a pointer and a length, answers are structs of numbers. What the fields mean stands in include/mespindro.h.
+ghost use mathlib.Core.Path.{_≡_};
+ghost use Rattle.calculus.specs.Answers.{countedValues, ranValues, steppedValues, stoodValues};
+ghost use Rattle.calculus.specs.Calls.{Reads, RunsWith, StandsAt, StepsInto, Writes};
+ghost use Rattle.table.specs.Threads.{SpanOf};
+ghost use Rattle.mespindro.specs.Limit.{limit};
+ghost use Rattle.mespindro.specs.Exports.{countValues, standValues, stopValues};
+use calculus::Counted;
+use calculus::Ran;
+use calculus::Stepped;
+use calculus::Stood;
+use calculus::reason_code;
+use calculus::refusal_number;
+use calculus::standing_code;
+
+// How many nodes or bytes stand at the front of the output; 0 and a refusal's number.
+#[repr(C)]
+pub struct Count {
+    pub count: usize,
+    pub refusal: u16,
+}
+
+// Why a run stopped, the nodes it left, the steps taken; or a refusal's number.
+#[repr(C)]
+pub struct Stop {
+    pub nodes: usize,
+    pub steps: u32,
+    pub reason: u16,
+    pub refusal: u16,
+}
+
+// How a thread stands; or a refusal's number.
+#[repr(C)]
+pub struct Stand {
+    pub standing: u16,
+    pub refusal: u16,
+}
+
+// A part of the table: its first number, and how many numbers.
+#[repr(C)]
+pub struct Part {
+    pub start: usize,
+    pub length: usize,
+}
+
+fn count_of(x: Counted) -> Count
+    ensures { λ r. ⌜ countValues r ≡ countedValues x ⌝ }
+{
+    match x {
+        Counted::Count(n) => Count {
+            count: n,
+            refusal: 0,
+        },
+        Counted::Refused(r) => Count {
+            count: 0,
+            refusal: refusal_number(r),
+        },
+    }
+}
+
+fn step_count_of(x: Stepped) -> Count
+    ensures { λ r. ⌜ countValues r ≡ steppedValues x ⌝ }
+{
+    match x {
+        Stepped::Nodes(n) => Count {
+            count: n,
+            refusal: 0,
+        },
+        Stepped::Refused(r) => Count {
+            count: 0,
+            refusal: refusal_number(r),
+        },
+    }
+}
+
+fn stop_of(x: Ran) -> Stop
+    ensures { λ r. ⌜ stopValues r ≡ ranValues x ⌝ }
+{
+    match x {
+        Ran::Stopped(reason, nodes, steps) => Stop {
+            nodes,
+            steps,
+            reason: reason_code(reason),
+            refusal: 0,
+        },
+        Ran::Refused(r) => Stop {
+            nodes: 0,
+            steps: 0,
+            reason: 0,
+            refusal: refusal_number(r),
+        },
+    }
+}
+
+fn stand_of(x: Stood) -> Stand
+    ensures { λ r. ⌜ standValues r ≡ stoodValues x ⌝ }
+{
+    match x {
+        Stood::Stands(s) => Stand {
+            standing: standing_code(s),
+            refusal: 0,
+        },
+        Stood::Refused(r) => Stand {
+            standing: 0,
+            refusal: refusal_number(r),
+        },
+    }
+}
+
+#[no_mangle]
+pub extern "C" fn mespindro_read(text: &[u8], out: &mut [u16]) -> Count
+    ensures { λ r. ⌜ Reads limit (now (text .entry)) (now (out .entry)) (countValues r) (now (out .exit)) ⌝ }
+{
+    count_of(crate::read(text, out))
+}
+
+#[no_mangle]
+pub extern "C" fn mespindro_write(table: &[u16], count: usize, out: &mut [u8]) -> Count
+    ensures { λ r. ⌜ Writes limit (now (table .entry)) count (now (out .entry)) (countValues r) (now (out .exit)) ⌝ }
+{
+    count_of(crate::write(table, count, out))
+}
+
+#[no_mangle]
+pub extern "C" fn mespindro_step(table: &[u16], count: usize, out: &mut [u16]) -> Count
+    ensures { λ r. ⌜ StepsInto limit (now (table .entry)) count (now (out .entry)) (countValues r) (now (out .exit)) ⌝ }
+{
+    step_count_of(crate::step(table, count, out))
+}
+
+#[no_mangle]
+pub extern "C" fn mespindro_run(
+    table: &mut [u16],
+    count: usize,
+    work: &mut [u16],
+    most: u32,
+) -> Stop
+    ensures { λ r. ⌜ RunsWith limit (now (table .entry)) count (now (work .entry)) most (stopValues r) (now (table .exit)) (now (work .exit)) ⌝ }
+{
+    stop_of(crate::run(table, count, work, most))
+}
+
+#[no_mangle]
+pub extern "C" fn mespindro_standing(table: &[u16], count: usize, k: usize) -> Stand
+    ensures { λ r. ⌜ StandsAt limit (now (table .entry)) count k (standValues r) ⌝ }
+{
+    stand_of(crate::standing(table, count, k))
+}
+
+// Where the thread call's part begins and how long it is: C gets no reference back.
+#[no_mangle]
+pub extern "C" fn mespindro_thread(table: &[u16], count: usize, k: usize) -> Part
+    ensures { λ r. ⌜ SpanOf limit (now (table .entry)) count k (r .start) (r .length) ⌝ }
+{
+    let mut scratch = [0u16; 2050];
+    let span = table::threads::span_of(table, count, k, crate::LIMIT, &mut scratch);
+    Part {
+        start: span.start,
+        length: span.length,
+    }
+}
