@@ -1,0 +1,93 @@
+-- What an accepted call has. The conditions of refusals deny: what is not denied of a program is so, and what an accepted call has is the thing itself.
+use mathlib.Core.Path.{_≡_, refl, ap, ap₂}
+use mathlib.Core.List.{List, [], _∷_}
+use Prim.Native.Nat.{ℕ, suc, _≤_, _<_}
+use native.Mathlib.Omega.{arith}
+use Rattle.calculus.specs.declared.Refusal.{Refusal}
+use Rattle.calculus.specs.declared.Refusal.the-variants.{NoProgram, TooLong, NotCanonical, OutOfPlace, BadNumber, NoBinder, TooManyNodes, Incoherent, NoRoom, NoThread, Finished}
+use Rattle.calculus.specs.Tree.{Sort, term, program, Tree, empty, alt, bound, free, con, abs, fresh, two, preorder, threads}
+use Rattle.calculus.specs.Good.{Closed, Coherent, All, Good}
+use Rattle.calculus.specs.Answers.{number}
+use Rattle.calculus.specs.Calls.{Accepts, TableOf, table-refusals}
+use Rattle.calculus.proofs.Preorders.{preorder-injective}
+use Rattle.calculus.proofs.Outcomes.{table-of-unique}
+
+-- the refusal numbers begin with 1
+pub number-positive : (r : Refusal) → 0 < number r
+number-positive NoProgram = omega arith
+number-positive TooLong = omega arith
+number-positive NotCanonical = omega arith
+number-positive OutOfPlace = omega arith
+number-positive BadNumber = omega arith
+number-positive NoBinder = omega arith
+number-positive TooManyNodes = omega arith
+number-positive Incoherent = omega arith
+number-positive NoRoom = omega arith
+number-positive NoThread = omega arith
+number-positive Finished = omega arith
+
+-- it is denied that A is denied
+abbrev pub Undenied : Type 0 → Type 0
+Undenied A = (A → ⊥) → ⊥
+
+-- through what follows
+through : {A B : Type 0} → (A → B) → Undenied A → Undenied B
+through f h g = h (λ a. g (f a))
+
+-- two numbers are equal where that is not denied
+pub same-number : (m n : ℕ) → Undenied (m ≡ n) → m ≡ n
+same-number m n h =
+    let l : n < m → ⊥ = λ k. h (λ e. omega arith) in
+    let g : m < n → ⊥ = λ k. h (λ e. omega arith) in
+    omega arith
+
+same-numbers : (l m : List ℕ) → Undenied (l ≡ m) → l ≡ m
+same-numbers [] [] h = refl
+same-numbers [] (y ∷ m) h = absurd (h (λ e. let z : _≡_ {A = ℕ} 0 1 = cc in omega arith))
+same-numbers (x ∷ l) [] h = absurd (h (λ e. let z : _≡_ {A = ℕ} 0 1 = cc in omega arith))
+same-numbers (x ∷ l) (y ∷ m) h = ap₂ (λ (a : ℕ) (r : List ℕ). a ∷ r) (same-number x y (through (λ e. cc) h)) (same-numbers l m (through (λ e. cc) h))
+
+same-trees : {s : Sort} (t u : Tree s) → Undenied (t ≡ u) → t ≡ u
+same-trees t u h = preorder-injective t u (same-numbers (preorder t) (preorder u) (through (λ e. ap preorder e) h))
+
+-- every index has its binder where that is not denied
+pub closed-stable : {s : Sort} (d : ℕ) (t : Tree s) → Undenied (Closed d t) → Closed d t
+closed-stable d empty h = tt
+closed-stable d (alt t p) h = (closed-stable d t (through (λ c. c .0) h), closed-stable d p (through (λ c. c .1) h))
+closed-stable d (bound i) h = let f : d ≤ i → ⊥ = λ k. h (λ l. omega arith) in omega arith
+closed-stable d (free x) h = tt
+closed-stable d (con c) h = tt
+closed-stable d (abs k p) h = closed-stable (suc d) p h
+closed-stable d (fresh t) h = closed-stable (suc d) t h
+closed-stable d (two o s t) h = (closed-stable d s (through (λ c. c .0) h), closed-stable d t (through (λ c. c .1) h))
+
+-- every thread is coherent where that is not denied
+pub coherent-stable : (ts : List (Tree term)) → Undenied (All Coherent ts) → All Coherent ts
+coherent-stable [] h = tt
+coherent-stable (t ∷ ts) h = (
+  record {
+    within = λ l p k. closed-stable 1 p (through (λ c. c .0 .within l p k) h);
+    equal = λ l p q k m. same-trees p q (through (λ c. c .0 .equal l p q k m) h);
+  },
+  coherent-stable ts (through (λ c. c .1) h),
+)
+
+module _ {n : ℕ} {table : List ℕ} {count : ℕ} {p : Tree program} where
+  -- a good program in a table is given none of 1, 6 and 8
+  pub good-table : TableOf n table count p → Good n p → Accepts (table-refusals n table count)
+  good-table t g = (
+    (λ f. f p t),
+    (
+      (λ f. f .1 .1 (rw (table-of-unique (f .1 .0) t) (g .closed))),
+      ((λ f. f .1 .1 (rw (table-of-unique (f .1 .0) t) (g .coherent))), tt),
+    ),
+  )
+
+  -- and the program in a table that is given none of them is good
+  pub table-good : Accepts (table-refusals n table count) → TableOf n table count p → Good n p
+  table-good a t = record {
+    small = omega (arith, t .counts, t .small);
+    ranges = t .ranges;
+    closed = closed-stable 0 p (λ f. a .1 .0 (p, (t, f)));
+    coherent = coherent-stable (threads p) (λ f. a .1 .1 .0 (p, (t, f)));
+  }

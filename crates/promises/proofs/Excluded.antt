@@ -1,0 +1,294 @@
+-- Document 01 (c) over the calls' contracts: of every outcome that they allow, each excluded with a program that shows it.
+use mathlib.Core.Path.{_≡_, refl, sym, ap, _∙_}
+use mathlib.Core.Logic.{_⊎_, inl, inr}
+use mathlib.Core.List.{List, [], _∷_, _++_}
+use mathlib.Core.Option.{none, some, bind}
+use Prim.Native.Nat.{ℕ, suc, _*_, _-_, _≤_}
+use native.Mathlib.Omega.{arith}
+use lib.ListN.{getD, take, length-append}
+use lib.Seq.{take-at}
+use Rattle.calculus.specs.declared.Refusal.the-variants.{Finished}
+use Rattle.calculus.specs.declared.Reason.the-variants.{Ended}
+use Rattle.calculus.specs.Tree.{Sort, term, program, guard, unif, Head, code, at, Tree, empty, alt, bound, free, con, abs, fresh, two, preorder, nodes, threads, program-of, uses}
+use Rattle.calculus.specs.Put.{substitute}
+use Rattle.calculus.specs.Value.{single, structure, value}
+use Rattle.calculus.specs.Unify.{one, all, shape, takes, carry, meet, solve, unify}
+use Rattle.calculus.specs.Redex.{plug, own, redexes}
+use Rattle.calculus.specs.Step.{rewriting, first, step-thread, Step, step}
+use Rattle.calculus.specs.Run.{End, size, later, next-program, run, holds-nodes, room-of}
+use Rattle.calculus.specs.Sexp.{list}
+use Rattle.calculus.specs.Text.{raw-empty, encode, raw, raw-text, text}
+use Rattle.calculus.specs.Good.{Closed, Holds, Coherent, All, Good}
+use Rattle.calculus.specs.Answers.{Values}
+use Rattle.calculus.specs.Calls.{front, TextOf, Reads, read, TableOf, end-table, ran-values, StepsTo, StepsInto, stepped, not-stepped, RunsWith, ran}
+use Rattle.calculus.proofs.Substitutes.{impossible}
+use Rattle.calculus.proofs.Alls.{all-each}
+use Rattle.calculus.proofs.Preorders.{preorder-length, threads-of-program}
+use Rattle.calculus.proofs.Texts.{text-injective, text-length}
+use Rattle.calculus.proofs.Outcomes.{table-of-unique, reads-once, steps-once, runs-once}
+use Rattle.calculus.proofs.Machines.{run-ended, run-goes}
+use Rattle.calculus.proofs.Exclusions.{step-accepts}
+use Rattle.text.proofs.RoundTrip.{accepted}
+
+-- What comes of a good program in a table.
+module _ {n : ℕ} {table : List ℕ} {count : ℕ} {p : Tree program} (h : TableOf n table count p) (g : Good n p) where
+  same : (q : Tree program) → TableOf n table count q → q ≡ p
+  same q f = table-of-unique f h
+
+  -- its single step, if the result has room
+  pub good-steps : {s : Step} {out : List ℕ} {v : Values} {o : List ℕ} → step (threads p) ≡ some s → size (s .result) ≤ n → size (s .result) ≤ holds-nodes out → StepsInto n table count out v o →
+      (v ≡ accepted (size (s .result))) × (o ≡ front (preorder (program-of (s .result))) out)
+  good-steps {s} {out} e l r i =
+      let once : (q : Tree program) (x : Step) → StepsTo n table count q x → x ≡ s = λ q x f. let j = rw (same q (f .table-of)) at (f .steps) in cc in
+      steps-once i (
+      stepped p s (
+        (λ f. f p h),
+        (
+          (λ f. f .1 .1 (rw (same (f .0) (f .1 .0)) (g .closed))),
+          (
+            (λ f. omega (arith, f .1 .1 .1 .1, ap (λ (x : Step). size (x .result)) (once (f .0) (f .1 .0) (f .1 .1 .0)))),
+            (
+              (λ f. f .1 .1 (rw (same (f .0) (f .1 .0)) (g .coherent))),
+              (
+                (λ f. omega (arith, f .1 .1 .1, ap (λ (x : Step). size (x .result)) (once (f .0) (f .1 .0) (f .1 .1 .0)))),
+                ((λ f. let j = rw (same (f .0) (f .1 .0)) at (f .1 .1) in impossible (cc)), tt),
+              ),
+            ),
+          ),
+        ),
+      )
+      (record { table-of = h; steps = e })
+      )
+
+  -- 11 where it has no step
+  pub good-stopped : {out : List ℕ} {v : Values} {o : List ℕ} → step (threads p) ≡ none → StepsInto n table count out v o → (v ≡ record { refusal = 11; values = 0 ∷ [] }) × (o ≡ out)
+  good-stopped e i =
+      let none-there : (q : Tree program) (x : Step) → StepsTo n table count q x → ⊥ = λ q x f. let j = rw (same q (f .table-of)) at (f .steps) in impossible (cc) in
+      steps-once i (
+      not-stepped Finished (
+      inr (
+        (λ f. f p h),
+        inr (
+          (λ f. f .1 .1 (rw (same (f .0) (f .1 .0)) (g .closed))),
+          inr (
+            (λ f. none-there (f .0) (f .1 .0) (f .1 .1 .0)),
+            inr (
+              (λ f. f .1 .1 (rw (same (f .0) (f .1 .0)) (g .coherent))),
+              inr ((λ f. none-there (f .0) (f .1 .0) (f .1 .1 .0)), inl ((p, (h, e)), refl)),
+            ),
+          ),
+        ),
+      )
+      )
+      )
+
+  -- its run, if the work table holds it
+  pub good-runs : {work : List ℕ} {limit : ℕ} {v : Values} {t w : List ℕ} → count ≤ holds-nodes work → RunsWith n table count work limit v t w →
+      let e = run (room-of n table work) limit (threads p) in (v ≡ ran-values e) × (t ≡ end-table table (e .last))
+  good-runs {work} {limit} l i =
+      let z = runs-once i (
+      ran p (
+        (λ f. f p h),
+        (
+          (λ f. f .1 .1 (rw (same (f .0) (f .1 .0)) (g .closed))),
+          ((λ f. f .1 .1 (rw (same (f .0) (f .1 .0)) (g .coherent))), ((λ f. omega arith), tt)),
+        ),
+      )
+      h
+      ) in
+      (z .0, z .1)
+
+-- Coherence of threads with at most one allocated abstraction.
+
+abbrev head-closures : Head → Tree program → List (ℕ × Tree program)
+head-closures code p = []
+head-closures (at l) p = (l, p) ∷ []
+
+-- the allocated abstractions of a tree, location and body, inside every body too
+unfoldable pub closures : {s : Sort} → Tree s → List (ℕ × Tree program)
+closures empty = []
+closures (alt t p) = closures t ++ closures p
+closures (bound i) = []
+closures (free x) = []
+closures (con c) = []
+closures (abs h p) = head-closures h p ++ closures p
+closures (fresh t) = closures t
+closures (two o s t) = closures s ++ closures t
+
+abbrev Among : ℕ → Tree program → List (ℕ × Tree program) → Type 0
+Among l q [] = ⊥
+Among l q (c ∷ cs) = ((c .0 ≡ l) × (c .1 ≡ q)) ⊎ Among l q cs
+
+module _ (l : ℕ) (q : Tree program) where
+  among-left : (cs ds : List (ℕ × Tree program)) → Among l q cs → Among l q (cs ++ ds)
+  among-left [] ds h = absurd h
+  among-left (c ∷ cs) ds (inl h) = inl h
+  among-left (c ∷ cs) ds (inr h) = inr (among-left cs ds h)
+
+  among-right : (cs ds : List (ℕ × Tree program)) → Among l q ds → Among l q (cs ++ ds)
+  among-right [] ds h = h
+  among-right (c ∷ cs) ds h = inr (among-right cs ds h)
+
+  -- they are all there
+  holds-among : {s : Sort} (t : Tree s) → Holds l q t → Among l q (closures t)
+  unfolding closures
+  holds-among empty h = absurd h
+  holds-among (alt t p) (inl h) = among-left (closures t) (closures p) (holds-among t h)
+  holds-among (alt t p) (inr h) = among-right (closures t) (closures p) (holds-among p h)
+  holds-among (bound i) h = absurd h
+  holds-among (free x) h = absurd h
+  holds-among (con c) h = absurd h
+  holds-among (abs code p) (inl h) = absurd h
+  holds-among (abs (at m) p) (inl h) = inl h
+  holds-among (abs h p) (inr k) = among-right (head-closures h p) (closures p) (holds-among p k)
+  holds-among (fresh t) h = holds-among t h
+  holds-among (two o s t) (inl h) = among-left (closures s) (closures t) (holds-among s h)
+  holds-among (two o s t) (inr h) = among-right (closures s) (closures t) (holds-among t h)
+
+-- none, or one whose body has no index beyond its own binder
+abbrev pub OneAtMost : List (ℕ × Tree program) → Type 0
+OneAtMost [] = Unit {0}
+OneAtMost (c ∷ []) = Closed 1 (c .1)
+OneAtMost (c ∷ d ∷ cs) = ⊥
+
+pub one-coherent : (t : Tree term) → OneAtMost (closures t) → Coherent t
+one-coherent t h = go (closures t) h (λ l q. holds-among l q t)
+  where
+    go : (cs : List (ℕ × Tree program)) → OneAtMost cs → ((l : ℕ) (q : Tree program) → Holds l q t → Among l q cs) → Coherent t
+    go [] o f = record { within = λ l p h. absurd (f l p h); equal = λ l p q h k. absurd (f l p h) }
+    go (c ∷ []) o f = record {
+      within = λ l p h. elim (f l p h) [ inl i ↦ rw (i .1) at o | inr i ↦ absurd i ];
+      equal = λ l p q h k. elim (f l p h) [ inl i ↦ elim (f l q k) [ inl j ↦ sym (i .1) ∙ j .1 | inr j ↦ absurd j ] | inr i ↦ absurd i ];
+    }
+    go (c ∷ d ∷ cs) o f = absurd o
+
+-- threads that stand in a table are a good program if they are closed and have one allocated abstraction at most
+held-good : {n : ℕ} {table : List ℕ} {count : ℕ} (ts : List (Tree term)) → TableOf n table count (program-of ts) → Closed 0 (program-of ts) → All (λ t. OneAtMost (closures t)) ts → Good n (program-of ts)
+held-good ts h c o = record { small = omega (arith, h .counts, h .small); ranges = h .ranges; closed = c; coherent = rw threads-of-program (all-each (λ t. OneAtMost (closures t)) Coherent ts one-coherent o) }
+
+-- a good program's own numbers are a table that holds it, whatever stands behind them: what is said below is said of something
+pub own-table : {n : ℕ} {p : Tree program} (r : List ℕ) → Good n p → TableOf n (preorder p ++ r) (nodes p) p
+own-table {p = p} r g = record { counts = refl; small = g .small; within = omega (arith, preorder-length p, length-append (preorder p) r); is = take-at (preorder p) r (2 * nodes p) (preorder-length p); ranges = g .ranges }
+
+-- with the run of the threads in hand
+pub runs-to : {n : ℕ} {table : List ℕ} {count : ℕ} {work : List ℕ} {limit : ℕ} {v : Values} {t w : List ℕ} {e : End (List (Tree term))} (ts : List (Tree term)) → TableOf n table count (program-of ts) → Good n (program-of ts) → count ≤ holds-nodes work →
+    run (room-of n table work) limit ts ≡ e → RunsWith n table count work limit v t w → (v ≡ ran-values e) × (t ≡ end-table table (e .last))
+runs-to {n} {table} {work = work} {limit} {e = e} ts h g l i r =
+    let j : run (room-of n table work) limit (threads (program-of ts)) ≡ e = ap (run (room-of n table work) limit) (threads-of-program ts) ∙ i in
+    rw j at (good-runs h g l r)
+
+-- A reader may not always refuse: the text `()` is read under every limit, whatever the output holds.
+pub reader-must-read : {n : ℕ} {out : List ℕ} {v : Values} {o : List ℕ} → Reads n (text empty) out v o → 1 ≤ n → 1 ≤ holds-nodes out → v .refusal ≡ 0
+unfolding text raw-text raw nodes threads
+reader-must-read {n} {out} i l r =
+    let only-empty : (p : Tree program) → TextOf n (text empty) p → p ≡ empty = λ p t. text-injective p empty (t .is) in
+    ap (λ (v : Values). v .refusal) (
+    reads-once i (
+    read empty (
+      (λ h. omega (arith, text-length 1 empty (omega arith) tt)),
+      (
+        (λ f. f (list (encode raw-empty)) refl),
+        (
+          (λ f. f .1 .1 raw-empty refl),
+          (
+            (λ f. f .1 .1 empty (record { is = refl; ranges = tt })),
+            (
+              (λ k. k .1 .1 (rw (only-empty (k .0) (k .1 .0)) tt)),
+              (
+                (λ k. let e = only-empty (k .0) (k .1 .0) in omega (arith, rw e at (k .1 .1))),
+                (
+                  (λ k. k .1 .1 (rw (only-empty (k .0) (k .1 .0)) tt)),
+                  ((λ k. let e = only-empty (k .0) (k .1 .0) in omega (arith, rw e at (k .1 .1))), tt),
+                ),
+              ),
+            ),
+          ),
+        ),
+      ),
+    )
+    (record { is = refl; ranges = tt })
+    ) .0
+    )
+
+-- Nor may a step: `((n b0))` steps to `(x0)`.
+pub step-must-step : {n : ℕ} {table : List ℕ} {count : ℕ} {out : List ℕ} {v : Values} {o : List ℕ} → TableOf n table count (program-of (fresh (bound 0) ∷ [])) → 3 ≤ holds-nodes out → StepsInto n table count out v o →
+    (v .refusal ≡ 0) × (o ≡ front (preorder (program-of (free 0 ∷ []))) out)
+unfolding nodes program-of closures
+step-must-step h r i =
+    let z = good-steps h (held-good (fresh (bound 0) ∷ []) h (omega arith) (tt, tt)) (ap step (threads-of-program (fresh (bound 0) ∷ [])) ∙ step-accepts) (omega (arith, h .counts, h .small)) (omega arith) i in
+    (ap (λ (v : Values). v .refusal) (z .0), z .1)
+
+-- the run of one constructor ends in it at once
+constructor-end : (room limit c : ℕ) → run room limit (con c ∷ []) ≡ record { reason = Ended; taken = 0; last = con c ∷ [] }
+unfolding substitute own redexes first step-thread step next-program run
+constructor-end room limit c = run-ended next-program size {s = con c ∷ []} room limit refl
+
+leaves-constructor : {n : ℕ} {table : List ℕ} {count c : ℕ} {work : List ℕ} {k : ℕ} {v : Values} {t w : List ℕ} → TableOf n table count (program-of (con c ∷ [])) → count ≤ holds-nodes work → RunsWith n table count work k v t w → take 4 t ≡ 1 ∷ 0 ∷ 4 ∷ c ∷ []
+unfolding closures preorder program-of
+leaves-constructor {n} {table} {c = c} {work} {k} h l r = rw (runs-to (con c ∷ []) h (held-good (con c ∷ []) h (omega arith) (tt, tt)) l (constructor-end (room-of n table work) k c) r .1)
+
+-- One fixed end program does not serve: what a run leaves of `(c1)` differs from what a run leaves of `(c2)` in the first four numbers, whatever the limits.
+pub ends-must-differ : {n : ℕ} {table table′ : List ℕ} {count count′ : ℕ} {work work′ : List ℕ} {k k′ : ℕ} {v v′ : Values} {t t′ w w′ : List ℕ} →
+    TableOf n table count (program-of (con 1 ∷ [])) → TableOf n table′ count′ (program-of (con 2 ∷ [])) → count ≤ holds-nodes work → count′ ≤ holds-nodes work′ →
+    RunsWith n table count work k v t w → RunsWith n table′ count′ work′ k′ v′ t′ w′ → take 4 t ≡ take 4 t′ → ⊥
+ends-must-differ {table = table} {table′} h h′ l l′ r r′ e =
+    let a = leaves-constructor h l r in
+    let a′ = leaves-constructor h′ l′ r′ in
+    let z : _≡_ {A = ℕ} 1 2 = cc in omega arith
+
+-- A step may not copy its input: `((g c1 c2))` does not step to itself.
+pub step-must-not-copy : {n : ℕ} {table : List ℕ} {count : ℕ} {out : List ℕ} {v : Values} {o : List ℕ} → TableOf n table count (program-of (two guard (con 1) (con 2) ∷ [])) → 3 ≤ holds-nodes out → StepsInto n table count out v o →
+    o ≡ front (preorder (program-of (two guard (con 1) (con 2) ∷ []))) out → ⊥
+unfolding nodes preorder program-of closures substitute single structure value plug own redexes rewriting first step-thread step
+step-must-not-copy h r i e =
+    let ts = two guard (con 1) (con 2) ∷ [] in
+    let z = good-steps h (held-good ts h (omega arith) (tt, tt)) (ap step (threads-of-program ts)) (omega (arith, h .counts, h .small)) (omega arith) i .1 in
+    let y : _≡_ {A = ℕ} 4 9 = cc in omega arith
+
+-- one step of a run, its result within the room
+goes-on : (room limit : ℕ) (ts q : List (Tree term)) {e : End (List (Tree term))} → next-program ts ≡ some q → size q ≤ room → run room limit q ≡ e → run room (suc limit) ts ≡ later next-program size e
+unfolding run
+goes-on room limit ts q h l r = run-goes next-program size {s = ts} room limit h l ∙ ap (later next-program size) r
+
+-- `((g (u x0 c1) x0) (g (u x0 c2) x0))`
+abbrev two-threads : List (Tree term)
+two-threads = two guard (two unif (free 0) (con 1)) (free 0) ∷ two guard (two unif (free 0) (con 2)) (free 0) ∷ []
+
+two-threads-run : (room limit : ℕ) → 13 ≤ room → 4 ≤ limit → run room limit two-threads ≡ record { reason = Ended; taken = 4; last = con 1 ∷ con 2 ∷ [] }
+unfolding nodes program-of uses substitute single structure value one all shape takes carry meet solve unify plug own redexes rewriting first step-thread step next-program run bind
+two-threads-run room limit l k =
+    let j = limit - 4 in
+    let e : limit ≡ suc (suc (suc (suc j))) = omega arith in
+    let other = two guard (two unif (free 0) (con 2)) (free 0) ∷ [] in
+    let a = two guard (con 0) (con 1) ∷ other in
+    let b = con 1 ∷ other in
+    let c = con 1 ∷ two guard (con 0) (con 2) ∷ [] in
+    let d = con 1 ∷ con 2 ∷ [] in
+    rw e (goes-on room (suc (suc (suc j))) two-threads a refl (omega arith) (goes-on room (suc (suc j)) a b refl (omega arith) (goes-on room (suc j) b c refl (omega arith) (goes-on room j c d refl (omega arith) (run-ended next-program size {s = d} room j refl)))))
+
+-- A run may not work its first thread alone: with `x0` in both, each thread of `((g (u x0 c1) x0) (g (u x0 c2) x0))` is worked with bindings of its own, 4 steps in all.
+pub run-must-work-every-thread : {n : ℕ} {table : List ℕ} {count : ℕ} {work : List ℕ} {limit : ℕ} {v : Values} {t w : List ℕ} →
+    TableOf n table count (program-of two-threads) → count ≤ holds-nodes work → 4 ≤ limit → RunsWith n table count work limit v t w →
+    (v ≡ ran-values (record { reason = Ended; taken = 4; last = con 1 ∷ con 2 ∷ [] })) × (t ≡ end-table table (con 1 ∷ con 2 ∷ []))
+unfolding nodes program-of closures
+run-must-work-every-thread {n} {table} {count} {work} {limit} h l k r = runs-to two-threads h (held-good two-threads h (omega arith) (tt, (tt, tt))) l (two-threads-run (room-of n table work) limit (omega (arith, h .counts, h .small, h .within)) k) r
+
+-- the step count that an accepted run tells, the third of its values
+abbrev pub steps-told : Values → ℕ
+steps-told v = getD (v .values) 2 0
+
+-- The step count may not be made up: `()` takes none, `((g c1 c2))` takes one.
+pub count-must-be-right : {n : ℕ} {table table′ : List ℕ} {count count′ : ℕ} {work work′ : List ℕ} {k k′ : ℕ} {v v′ : Values} {t t′ w w′ : List ℕ} →
+    TableOf n table count empty → TableOf n table′ count′ (program-of (two guard (con 1) (con 2) ∷ [])) → count ≤ holds-nodes work → count′ ≤ holds-nodes work′ → 1 ≤ k′ →
+    RunsWith n table count work k v t w → RunsWith n table′ count′ work′ k′ v′ t′ w′ → (steps-told v ≡ 0) × (steps-told v′ ≡ 1)
+unfolding nodes program-of closures substitute single structure value plug own redexes rewriting first step-thread step next-program run
+count-must-be-right {n} {table} {table′} {work = work} {work′} {k} {k′} h h′ l l′ m r r′ =
+    let ts = two guard (con 1) (con 2) ∷ [] in
+    let d = con 2 ∷ [] in
+    let j = k′ - 1 in
+    let e : k′ ≡ suc j = omega arith in
+    let room = room-of n table′ work′ in
+    let i : run room k′ ts ≡ record { reason = Ended; taken = 1; last = d } = rw e (goes-on room j ts d refl (omega (arith, h′ .counts, h′ .small, h′ .within)) (run-ended next-program size {s = d} room j refl)) in (
+      ap steps-told (runs-to [] h (held-good [] h tt tt) l (run-ended next-program size {s = []} (room-of n table work) k refl) r .0),
+      ap steps-told (runs-to ts h′ (held-good ts h′ (omega arith) (tt, tt)) l′ i r′ .0),
+    )

@@ -1,0 +1,6 @@
+pub mod Admitted
+pub mod Refused
+pub mod Worked
+pub mod Heads
+pub mod Excluded
+pub mod Starred

@@ -1,0 +1,181 @@
+-- Demand 1 over the calls: of every outcome that a contract allows, for any node limit n, the refusal number is given exactly when, and a refused call has done nothing.
+use mathlib.Core.Path.{_≡_, refl, sym, ap, _∙_}
+use mathlib.Core.Logic.{_⊎_, inl, inr, ⊎-elim}
+use mathlib.Core.List.{List, [], _∷_}
+use Prim.Native.Nat.{ℕ, _≤_, _<_}
+use native.Mathlib.Omega.{arith}
+use lib.ListN.{length, getD, length-append, length-drop, length-replicate}
+use Rattle.calculus.specs.declared.Refusal.{Refusal}
+use Rattle.calculus.specs.declared.Refusal.the-variants.{NoProgram, TooLong, NotCanonical, OutOfPlace, BadNumber, NoBinder, TooManyNodes, Incoherent, NoRoom, NoThread, Finished}
+use Rattle.calculus.specs.Tree.{term, Tree, preorder, nodes, threads, program-of}
+use Rattle.calculus.specs.Run.{Leads, stays, goes, size, next-program, run, holds-nodes, room-of}
+use Rattle.calculus.specs.Text.{text}
+use Rattle.calculus.specs.Answers.{number, Values}
+use Rattle.calculus.specs.Calls.{Refusals, Accepts, Refuses, front, read-refusals, Reads, read, refused, write-refusals, Writes, written, not-written, step-refusals, StepsInto, stepped, not-stepped, run-refusals, RunsWith, ran, not-run, thread-refusals, StandsAt, stands, not-stood, PartAt, part, no-part}
+use Rattle.calculus.proofs.Preorders.{nodes-positive, preorder-length, program-of-threads}
+use Rattle.calculus.proofs.Refusals.{Ascends, Applies, read-ascends, write-ascends, step-ascends, run-ascends, thread-ascends, lowest, accepted-not-refused, one-refusal}
+use Rattle.calculus.proofs.Runs.{program-run-is}
+use Rattle.table.specs.Threads.{ThreadPart}
+use Rattle.promises.specs.Exactly.{Exactly}
+use Rattle.promises.proofs.Admitted.{number-positive, Undenied, same-number}
+
+-- One law for every call's list of refusals.
+
+-- the refusal of a number
+abbrev refusal-of : ℕ → Refusal
+refusal-of m = getD (NoProgram ∷ NoProgram ∷ TooLong ∷ NotCanonical ∷ OutOfPlace ∷ BadNumber ∷ NoBinder ∷ TooManyNodes ∷ Incoherent ∷ NoRoom ∷ NoThread ∷ Finished ∷ []) m NoProgram
+
+refusal-of-number : (r : Refusal) → refusal-of (number r) ≡ r
+refusal-of-number NoProgram = refl
+refusal-of-number TooLong = refl
+refusal-of-number NotCanonical = refl
+refusal-of-number OutOfPlace = refl
+refusal-of-number BadNumber = refl
+refusal-of-number NoBinder = refl
+refusal-of-number TooManyNodes = refl
+refusal-of-number Incoherent = refl
+refusal-of-number NoRoom = refl
+refusal-of-number NoThread = refl
+refusal-of-number Finished = refl
+
+-- a number is that of one refusal
+pub number-injective : (r q : Refusal) → number r ≡ number q → r ≡ q
+number-injective r q e = sym (refusal-of-number r) ∙ ap refusal-of e ∙ refusal-of-number q
+
+-- where none holds, none applies
+none-applies : (cs : Refusals) (m : ℕ) → Accepts cs → Applies cs m → ⊥
+none-applies [] m a h = h
+none-applies (c ∷ cs) m a (inl h) = a .0 (h .1)
+none-applies (c ∷ cs) m a (inr h) = none-applies cs m (a .1) h
+
+-- no condition holds, and 0 is returned
+pub exactly-accepted : (cs : Refusals) → Accepts cs → Exactly cs 0
+exactly-accepted cs a = record {
+  refused = λ r g. absurd (accepted-not-refused cs r a g);
+  refused-only = λ r e. absurd (omega (arith, number-positive r));
+  accepted = λ b. refl;
+  accepted-only = λ e. a;
+  lowest = λ m h. absurd (none-applies cs m a h);
+}
+
+-- the first condition that holds is r's, and r's number is returned
+pub exactly-refused : (cs : Refusals) (r : Refusal) → Ascends 0 cs → Refuses cs r → Exactly cs (number r)
+exactly-refused cs r u g = record {
+  refused = λ q h. ap number (one-refusal cs r q g h);
+  refused-only = λ q e. rw (← number-injective r q e) g;
+  accepted = λ a. absurd (accepted-not-refused cs r a g);
+  accepted-only = λ e. absurd (omega (arith, number-positive r));
+  lowest = λ m h. (number-positive r, lowest cs 0 r m u g h);
+}
+
+-- it is not denied that a list accepts or refuses
+settled : (cs : Refusals) → Undenied (Accepts cs ⊎ ((r : Refusal) × Refuses cs r))
+settled [] f = f (inl tt)
+settled (c ∷ cs) f = let no : c .1 → ⊥ = λ h. f (inr (c .0, inl (h, refl))) in settled cs (λ k. f (⊎-elim (λ a. inl (no, a)) (λ g. inr (g .0, inr (no, g .1))) k))
+
+-- the list and its conditions determine the number
+pub exactly-one : (cs : Refusals) {a b : ℕ} → Exactly cs a → Exactly cs b → a ≡ b
+exactly-one cs {a} {b} x y = same-number a b (λ f. settled cs (λ k. f (⊎-elim (λ h. x .accepted h ∙ sym (y .accepted h)) (λ g. x .refused (g .0) (g .1) ∙ sym (y .refused (g .0) (g .1))) k)))
+
+-- Reading: 2 to 9.
+module _ {n : ℕ} {b out : List ℕ} where
+  -- a read's number is given exactly when
+  pub reads-exactly : {v : Values} {o : List ℕ} → Reads n b out v o → Exactly (read-refusals n b out) (v .refusal)
+  reads-exactly (read p a t) = exactly-accepted (read-refusals n b out) a
+  reads-exactly (refused r g) = exactly-refused (read-refusals n b out) r (read-ascends n b out) g
+
+  -- a refused read returns a count of 0 and changes nothing in lent memory
+  pub read-refused : {v : Values} {o : List ℕ} → Reads n b out v o → (v .refusal ≡ 0 → ⊥) → (v .values ≡ 0 ∷ []) × (o ≡ out)
+  read-refused (read p a t) f = absurd (f refl)
+  read-refused (refused r g) f = (refl, refl)
+
+-- Calls on a table: 1, 6, 8.
+module _ {n : ℕ} {table : List ℕ} {count : ℕ} where
+  -- a write's number is given exactly when: 9 too
+  pub writes-exactly : {out : List ℕ} {v : Values} {o : List ℕ} → Writes n table count out v o → Exactly (write-refusals n table count out) (v .refusal)
+  writes-exactly {out} (written p a t) = exactly-accepted (write-refusals n table count out) a
+  writes-exactly {out} (not-written r g) = exactly-refused (write-refusals n table count out) r (write-ascends n table count out) g
+
+  -- a step's: 7, 9 and 11 too
+  pub steps-exactly : {out : List ℕ} {v : Values} {o : List ℕ} → StepsInto n table count out v o → Exactly (step-refusals n table count out) (v .refusal)
+  steps-exactly {out} (stepped p s a t) = exactly-accepted (step-refusals n table count out) a
+  steps-exactly {out} (not-stepped r g) = exactly-refused (step-refusals n table count out) r (step-ascends n table count out) g
+
+  -- a run's: 9 too
+  pub runs-exactly : {work : List ℕ} {limit : ℕ} {v : Values} {t w : List ℕ} → RunsWith n table count work limit v t w → Exactly (run-refusals n table count work) (v .refusal)
+  runs-exactly {work} (ran p a t) = exactly-accepted (run-refusals n table count work) a
+  runs-exactly {work} (not-run r g) = exactly-refused (run-refusals n table count work) r (run-ascends n table count work) g
+
+  -- the standing call's: 10 too
+  pub stands-exactly : {k : ℕ} {v : Values} → StandsAt n table count k v → Exactly (thread-refusals n table count k) (v .refusal)
+  stands-exactly {k} (stands t a h) = exactly-accepted (thread-refusals n table count k) a
+  stands-exactly {k} (not-stood r g) = exactly-refused (thread-refusals n table count k) r (thread-ascends n table count k) g
+
+  -- a refused write returns a count of 0 and changes nothing in lent memory
+  pub write-refused : {out : List ℕ} {v : Values} {o : List ℕ} → Writes n table count out v o → (v .refusal ≡ 0 → ⊥) → (v .values ≡ 0 ∷ []) × (o ≡ out)
+  write-refused (written p a t) f = absurd (f refl)
+  write-refused (not-written r g) f = (refl, refl)
+
+  -- so does a refused step
+  pub step-refused : {out : List ℕ} {v : Values} {o : List ℕ} → StepsInto n table count out v o → (v .refusal ≡ 0 → ⊥) → (v .values ≡ 0 ∷ []) × (o ≡ out)
+  step-refused (stepped p s a t) f = absurd (f refl)
+  step-refused (not-stepped r g) f = (refl, refl)
+
+  -- a refused run returns counts of 0 and changes nothing in either table
+  pub run-refused : {work : List ℕ} {limit : ℕ} {v : Values} {t w : List ℕ} → RunsWith n table count work limit v t w → (v .refusal ≡ 0 → ⊥) → (v .values ≡ 0 ∷ 0 ∷ 0 ∷ []) × ((t ≡ table) × (w ≡ work))
+  run-refused (ran p a t) f = absurd (f refl)
+  run-refused (not-run r g) f = (refl, (refl, refl))
+
+  -- a refused standing call returns 0 for the standing
+  pub stand-refused : {k : ℕ} {v : Values} → StandsAt n table count k v → (v .refusal ≡ 0 → ⊥) → v .values ≡ 0 ∷ []
+  stand-refused (stands t a h) f = absurd (f refl)
+  stand-refused (not-stood r g) f = refl
+
+  part-refused : {k start : ℕ} {v : Values} {l : List ℕ} → StandsAt n table count k v → PartAt n table count k start l → (l ≡ [] → (v .refusal ≡ 0 → ⊥)) × ((v .refusal ≡ 0 → ⊥) → l ≡ [])
+  part-refused (stands t a h) (part u c i) = ((λ e z. omega (arith, ap length e, preorder-length u, nodes-positive u)), λ f. absurd (f refl))
+  part-refused {k} (stands t a h) (no-part r g) = absurd (accepted-not-refused (thread-refusals n table count k) r a g)
+  part-refused {k} (not-stood r g) (part u c i) = absurd (accepted-not-refused (thread-refusals n table count k) r c g)
+  part-refused (not-stood r g) (no-part q h) = ((λ e z. omega (arith, number-positive r)), λ f. refl)
+
+  -- the thread call's part is empty exactly when the standing call on the same input refuses
+  pub part-empty : {B : Type 0} {k : ℕ} {v : Values} {block part-block : B} {address part-address : ℕ} {l : List ℕ} → StandsAt n table count k v → ThreadPart n table count k block address part-block part-address l →
+      (l ≡ [] → (v .refusal ≡ 0 → ⊥)) × ((v .refusal ≡ 0 → ⊥) → l ≡ [])
+  part-empty h k = part-refused h (k .holds)
+
+-- No call makes lent memory longer or shorter: an accepted one fills a front that fits.
+
+front-length : (new old : List ℕ) → length new ≤ length old → length (front new old) ≡ length old
+front-length new old h = simp (length-append, length-drop) (omega arith)
+
+-- steps within the room lead to an end within it, or stay where they begin
+end-fits : {m j : ℕ} {s e : List (Tree term)} → Leads next-program j s e → size s ≤ m → (1 ≤ j → size e ≤ m) → size e ≤ m
+end-fits stays h f = h
+end-fits (goes k l) h f = f (omega arith)
+
+-- a read leaves the output as long as it was
+pub read-length : {n : ℕ} {b out : List ℕ} {v : Values} {o : List ℕ} → Reads n b out v o → length o ≡ length out
+read-length {out = out} (read p a t) = let fits : holds-nodes out < nodes p → ⊥ = λ h. a .1 .1 .1 .1 .1 .1 .1 .0 (p, (t, h)) in front-length (preorder p) out (omega (arith, preorder-length p))
+read-length (refused r g) = refl
+
+module _ {n : ℕ} {table : List ℕ} {count : ℕ} where
+  -- so does a write
+  pub write-length : {out : List ℕ} {v : Values} {o : List ℕ} → Writes n table count out v o → length o ≡ length out
+  write-length {out} (written p a t) = let fits : length out < length (text p) → ⊥ = λ h. a .1 .1 .1 .0 (p, (t, h)) in front-length (text p) out (omega arith)
+  write-length (not-written r g) = refl
+
+  -- so does a step
+  pub step-length : {out : List ℕ} {v : Values} {o : List ℕ} → StepsInto n table count out v o → length o ≡ length out
+  step-length {out} (stepped p s a t) =
+      let fits : holds-nodes out < size (s .result) → ⊥ = λ h. a .1 .1 .1 .1 .0 (p, (s, (t, h))) in
+      front-length (preorder (program-of (s .result))) out (omega (arith, preorder-length (program-of (s .result))))
+  step-length (not-stepped r g) = refl
+
+  -- a run leaves the table and the work table as long as they were
+  pub run-length : {work : List ℕ} {limit : ℕ} {v : Values} {t w : List ℕ} → RunsWith n table count work limit v t w → (length t ≡ length table) × (length w ≡ length work)
+  run-length {work} {limit} (ran p a t) =
+      let e = run (room-of n table work) limit (threads p) in
+      let i = program-run-is (room-of n table work) limit (threads p) in
+      let fits : size (e .last) ≤ holds-nodes table =
+      end-fits (i .leads) (omega (arith, ap nodes (program-of-threads p), t .counts, t .within)) (λ j. omega (arith, i .fits (e .taken) (e .last) j (omega arith) (i .leads))) in
+      (simp (length-append, length-replicate) (omega (arith, preorder-length (program-of (e .last)))), length-replicate (length work) 0)
+  run-length (not-run r g) = (refl, refl)

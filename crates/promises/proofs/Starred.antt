@@ -1,0 +1,121 @@
+-- Document 01 (d) over the calls' contracts: the twelve marked cases as one statement over one list.
+use mathlib.Core.Path.{_≡_, refl, sym, ap, _∙_}
+use mathlib.Core.List.{List, [], _∷_, _++_, map}
+use mathlib.Core.Option.{none}
+use Prim.Native.Nat.{ℕ, _*_, _-_, _≤_, _<_}
+use native.Mathlib.Omega.{arith}
+use lib.ListN.{length, getD, replicate}
+use Rattle.calculus.specs.declared.Reason.the-variants.{Ended}
+use Rattle.calculus.specs.declared.Standing.{Standing}
+use Rattle.calculus.specs.Tree.{term, Tree, preorder, nodes, program-of}
+use Rattle.calculus.specs.Good.{InRange, Closed, Coherent, All, Good}
+use Rattle.calculus.specs.Step.{step, standing}
+use Rattle.calculus.specs.Run.{End, size, run, room-of}
+use Rattle.calculus.specs.Text.{text}
+use Rattle.calculus.specs.Answers.{standingCode, Values}
+use Rattle.calculus.specs.Calls.{front, Reads, TableOf, Writes, StepsInto, end-table, ran-values, RunsWith, thread-refusals, StandsAt, stands, not-stood}
+use Rattle.calculus.specs.Known.{Known, Outcome, ascii, found, expected, AllRight, starred}
+use Rattle.calculus.proofs.Alls.{all-each}
+use Rattle.calculus.proofs.Preorders.{threads-of-program}
+use Rattle.calculus.proofs.Refusals.{accepted-not-refused}
+use Rattle.calculus.proofs.Preservation.{run-good}
+use Rattle.calculus.proofs.Ends.{starred-right}
+use Rattle.mespindro.specs.Limit.{limit}
+use Rattle.text.proofs.RoundTrip.{good-read-only, good-written-only}
+use Rattle.promises.specs.Calls.{RightCall, Each}
+use Rattle.promises.proofs.Heads.{stands-accepted, threads-there}
+use Rattle.promises.proofs.Excluded.{closures, OneAtMost, one-coherent, own-table, good-stopped, runs-to}
+
+-- a row's program fits the limit, is in range and closed, and has at most one allocated abstraction in a thread
+abbrev Checked : Known → Type 0
+Checked k = let p = program-of (k .program) in (nodes p ≤ limit) × InRange limit p × Closed 0 p × All (λ t. OneAtMost (closures t)) (k .program)
+
+starred-checked : Each Checked starred
+unfolding starred nodes program-of closures
+starred-checked = (omega arith, (omega arith, (omega arith, (omega arith, (omega arith, (omega arith, (omega arith, (omega arith, (omega arith, (omega arith, (omega arith, (omega arith, tt))))))))))))
+
+checked-good : (k : Known) → Checked k → Good limit (program-of (k .program))
+checked-good k c = record { small = c .0; ranges = c .1; closed = c .2; coherent = rw threads-of-program (all-each (λ t. OneAtMost (closures t)) Coherent (k .program) one-coherent (c .3)) }
+
+-- how the thread behind these stands
+code-there : (before : List (Tree term)) (t : Tree term) (after : List (Tree term)) → getD (map standingCode (map standing (before ++ (t ∷ after)))) (length before) 0 ≡ standingCode (standing t)
+code-there [] t after = refl
+code-there (b ∷ before) t after = code-there before t after
+
+-- A row that the definitions compute as it is told, with a good program: every call gives what it tells.
+module _ (k : Known) (e : found k ≡ expected k) (g : Good limit (program-of (k .program))) where
+  is-table : preorder (program-of (k .program)) ≡ k .table
+  unfolding found expected
+  is-table = ap (λ (o : Outcome). o .table) e
+
+  is-text : text (program-of (k .program)) ≡ ascii (k .written)
+  unfolding found expected
+  is-text = ap (λ (o : Outcome). o .text) e
+
+  is-run : run 2048 10000 (k .program) ≡ record { reason = Ended; taken = k .steps; last = k .end }
+  unfolding found expected
+  is-run = ap (λ (o : Outcome). o .run) e
+
+  is-end : run 2048 10000 (k .program) .last ≡ k .end
+  is-end = ap (λ (r : End (List (Tree term))). r .last) is-run
+
+  end-standings : map standing (k .end) ≡ k .standings
+  unfolding found expected
+  end-standings = ap (map standing) (sym is-end) ∙ ap (λ (o : Outcome). o .standings) e
+
+  end-single : step (k .end) ≡ none
+  unfolding found expected
+  end-single = ap step (sym is-end) ∙ ap (λ (o : Outcome). o .single) e
+
+  end-good : Good limit (program-of (k .end))
+  end-good = rw is-end at (run-good limit 2048 10000 (k .program) g (omega arith))
+
+  reads-right : (out : List ℕ) (v : Values) (o : List ℕ) → length out ≡ 2 * limit → Reads limit (ascii (k .written)) out v o → (v ≡ record { refusal = 0; values = size (k .program) ∷ [] }) × (o ≡ front (k .table) out)
+  reads-right out v o l r =
+      let z = good-read-only g (omega arith) (omega (arith, g .small)) (rw (← is-text) at r) in
+      (z .0, z .1 ∙ ap (λ (t : List ℕ). front t out) is-table)
+
+  writes-right : (table out : List ℕ) (v : Values) (o : List ℕ) → length (ascii (k .written)) ≤ length out → TableOf limit table (size (k .program)) (program-of (k .program)) → Writes limit table (size (k .program)) out v o →
+      (v ≡ record { refusal = 0; values = length (ascii (k .written)) ∷ [] }) × (o ≡ front (ascii (k .written)) out)
+  writes-right table out v o l h r = rw is-text at (good-written-only g h (rw is-text l) r)
+
+  runs-right : (table work : List ℕ) (v : Values) (t w : List ℕ) → length table ≡ 2 * limit → length work ≡ 2 * limit → TableOf limit table (size (k .program)) (program-of (k .program)) →
+      RunsWith limit table (size (k .program)) work 10000 v t w →
+      (v ≡ ran-values (record { reason = Ended; taken = k .steps; last = k .end })) × (t ≡ end-table table (k .end)) × TableOf limit t (size (k .end)) (program-of (k .end))
+  runs-right table work v t w l m h r =
+      let a : room-of limit table work ≡ 2048 = omega arith in
+      let z = runs-to (k .program) h g (omega (arith, g .small)) (ap (λ (room : ℕ). run room 10000 (k .program)) a ∙ is-run) r in
+      (z .0, z .1, rw (z .1) (own-table (replicate (length table - length (preorder (program-of (k .end)))) 0) end-good))
+
+  single-right : (table out : List ℕ) (v : Values) (o : List ℕ) → TableOf limit table (size (k .end)) (program-of (k .end)) → StepsInto limit table (size (k .end)) out v o → (v .refusal ≡ 11) × (o ≡ out)
+  single-right table out v o h r =
+      let z = good-stopped h end-good (ap step (threads-of-program (k .end)) ∙ end-single) r in
+      (ap (λ (x : Values). x .refusal) (z .0), z .1)
+
+  stands-right : (table : List ℕ) (j : ℕ) {v : Values} → j < length (k .end) → TableOf limit table (size (k .end)) (program-of (k .end)) → StandsAt limit table (size (k .end)) j v →
+      v ≡ record { refusal = 0; values = getD (map standingCode (k .standings)) j 0 ∷ [] }
+  stands-right table j l h (stands t a o) =
+      let c : getD (map standingCode (map standing (k .end))) j 0 ≡ standingCode (standing t) =
+      ap (λ (ts : List (Tree term)). getD (map standingCode (map standing ts)) j 0) (sym (threads-of-program (k .end)) ∙ threads-there (program-of (k .end)) h o) ∙
+      ap (λ (i : ℕ). getD (map standingCode (map standing (o .before ++ (t ∷ o .after)))) i 0) (sym (o .place)) ∙
+      code-there (o .before) t (o .after) in
+      ap (λ (m : ℕ). record { refusal = 0; values = m ∷ [] }) (sym c ∙ ap (λ (ss : List Standing). getD (map standingCode ss) j 0) end-standings)
+  stands-right table j l h (not-stood q i) =
+      absurd (accepted-not-refused (thread-refusals limit table (size (k .end)) j) q (stands-accepted j h (λ f. f end-good) (omega (arith, ap length (threads-of-program (k .end))))) i)
+
+  -- every call gives what the row tells
+  pub right : RightCall k
+  right = record { reads = reads-right; writes = writes-right; runs = runs-right; single = single-right; stands = λ table j v l h r. stands-right table j l h r }
+
+-- an equation of lists, row by row
+rows : (ks : List Known) → AllRight ks → Each (λ k. found k ≡ expected k) ks
+rows [] h = tt
+rows (k ∷ ks) h = ((cc), rows ks (cc))
+
+all-right : (ks : List Known) → Each (λ k. found k ≡ expected k) ks → Each Checked ks → Each RightCall ks
+all-right [] e c = tt
+all-right (k ∷ ks) e c = (right k (e .0) (checked-good k (c .0)), all-right ks (e .1) (c .1))
+
+-- Document 01's twelve marked cases hold of the calls.
+pub starred-calls : Each RightCall starred
+starred-calls = all-right starred (rows starred starred-right) starred-checked

@@ -1,0 +1,134 @@
+-- Demand 2 over the calls: what every outcome that a contract allows has worked, for any node limit n.
+use mathlib.Core.Path.{_≡_, refl, ap}
+use mathlib.Core.Logic.{inl, inr}
+use mathlib.Core.List.{List, _++_}
+use mathlib.Core.Option.{none}
+use Prim.Native.Nat.{ℕ, _*_, _-_, _≤_, _<_}
+use native.Mathlib.Omega.{arith}
+use lib.ListN.{length, drop, replicate, length-append}
+use lib.Seq.{take-at}
+use Rattle.calculus.specs.declared.Refusal.the-variants.{Finished}
+use Rattle.calculus.specs.Tree.{term, program, Tree, preorder, nodes, threads, program-of}
+use Rattle.calculus.specs.Good.{Closed, Coherent, All, Good}
+use Rattle.calculus.specs.Normal.{Normal}
+use Rattle.calculus.specs.Step.{Step, step}
+use Rattle.calculus.specs.Run.{End, size, run, holds-nodes, room-of}
+use Rattle.calculus.specs.Text.{text}
+use Rattle.calculus.specs.Answers.{number, Values}
+use Rattle.calculus.specs.Calls.{Refuses, front, Reads, read, refused, TableOf, Writes, StepsTo, step-refusals, StepsInto, stepped, not-stepped, end-table, ran-values, RunsWith, ran, not-run}
+use Rattle.calculus.proofs.Substitutes.{impossible}
+use Rattle.calculus.proofs.Alls.{all-threads, all-both}
+use Rattle.calculus.proofs.Preorders.{preorder-length, program-of-threads}
+use Rattle.calculus.proofs.Texts.{text-length}
+use Rattle.calculus.proofs.Steps.{step-chosen, no-step-normal, normal-no-step}
+use Rattle.calculus.proofs.Runs.{program-run-is}
+use Rattle.calculus.proofs.Preservation.{step-good, run-good, run-reductions}
+use Rattle.calculus.proofs.Outcomes.{table-of-unique, steps-once, runs-once}
+use Rattle.text.proofs.RoundTrip.{accepted, good-written-only}
+use Rattle.promises.specs.Worked.{HasRead, HasStepped, HasRun}
+use Rattle.promises.proofs.Admitted.{number-positive, closed-stable, coherent-stable, good-table, table-good}
+
+-- a table that begins with a good program's nodes holds that program
+front-table : {n : ℕ} (p : Tree program) (rest : List ℕ) → Good n p → TableOf n (preorder p ++ rest) (nodes p) p
+front-table p rest g = record {
+  counts = refl;
+  small = g .small;
+  within = omega (arith, length-append (preorder p) rest, preorder-length p);
+  is = take-at (preorder p) rest (2 * nodes p) (preorder-length p);
+  ranges = g .ranges;
+}
+
+-- what an accepted read has read
+pub read-gives : {n : ℕ} {b out : List ℕ} {v : Values} {o : List ℕ} → Reads n b out v o → v .refusal ≡ 0 → HasRead n b out v o
+read-gives {n} {b} {out} (read p a t) e =
+    let small : n < nodes p → ⊥ = λ h. a .1 .1 .1 .1 .1 .0 (p, (t, h)) in
+    let fits : holds-nodes out < nodes p → ⊥ = λ h. a .1 .1 .1 .1 .1 .1 .1 .0 (p, (t, h)) in
+    let good : Good n p = record {
+      small = omega arith;
+      ranges = t .ranges;
+      closed = closed-stable 0 p (λ f. a .1 .1 .1 .1 .0 (p, (t, f)));
+      coherent = coherent-stable (threads p) (λ f. a .1 .1 .1 .1 .1 .1 .0 (p, (t, f)));
+    } in
+    record { program = p; good = good; is = t .is; fits = omega arith; values = refl; left = refl; back = front-table p (drop (length (preorder p)) out) good }
+read-gives (refused r g) e = absurd (omega (arith, number-positive r))
+
+module _ {n : ℕ} {table : List ℕ} {count : ℕ} where
+  -- what an accepted step has stepped
+  pub step-gives : {out : List ℕ} {v : Values} {o : List ℕ} → StepsInto n table count out v o → v .refusal ≡ 0 → HasStepped n table count out v o
+  step-gives {out} (stepped p s a k) e =
+      let t = k .table-of in
+      let good : Good n p = table-good (a .0, (a .1 .0, (a .1 .1 .1 .0, tt))) t in
+      let small : n < size (s .result) → ⊥ = λ h. a .1 .1 .0 (p, (s, (k, (good .coherent, h)))) in
+      let fits : holds-nodes out < size (s .result) → ⊥ = λ h. a .1 .1 .1 .1 .0 (p, (s, (k, h))) in
+      let result-good : Good n (program-of (s .result)) = step-good n (threads p) (rw program-of-threads good) (k .steps) (omega arith) in
+      record {
+        program = p;
+        table-of = t;
+        good = good;
+        step = s;
+        chosen = step-chosen (threads p) (good .coherent) (k .steps);
+        fits = omega arith;
+        values = refl;
+        left = refl;
+        result-good = result-good;
+        back = front-table (program-of (s .result)) (drop (length (preorder (program-of (s .result)))) out) result-good;
+      }
+  step-gives (not-stepped r g) e = absurd (omega (arith, number-positive r))
+
+  -- 11 is given of a good program in which every thread is a value or stuck
+  pub step-finished : {out : List ℕ} {v : Values} {o : List ℕ} → StepsInto n table count out v o → v .refusal ≡ 11 → (p : Tree program) × (TableOf n table count p × (Good n p × All Normal (threads p)))
+  step-finished (stepped p s a k) e = absurd (omega arith)
+  step-finished {out} (not-stepped r g) e = go g
+    where
+      go : Refuses (step-refusals n table count out) r → (p : Tree program) × (TableOf n table count p × (Good n p × All Normal (threads p)))
+      go (inl (h, q)) = absurd (omega (arith, ap number q))
+      go (inr (a, inl (h, q))) = absurd (omega (arith, ap number q))
+      go (inr (a, inr (b, inl (h, q)))) = absurd (omega (arith, ap number q))
+      go (inr (a, inr (b, inr (c, inl (h, q))))) = absurd (omega (arith, ap number q))
+      go (inr (a, inr (b, inr (c, inr (d, inl (h, q)))))) = absurd (omega (arith, ap number q))
+      go (inr (a, inr (b, inr (c, inr (d, inr (f, inl ((p, (t, i)), q))))))) =
+          let good : Good n p = table-good (a, (b, (d, tt))) t in
+          (p, (t, (good, no-step-normal (threads p) (all-threads (λ s t. Closed 0 t) (λ t q c. c) p (good .closed)) i)))
+      go (inr (a, inr (b, inr (c, inr (d, inr (f, inr (i, h))))))) = absurd h
+
+  -- and of every such program
+  pub finished-step : {out : List ℕ} {v : Values} {o : List ℕ} {p : Tree program} → StepsInto n table count out v o → TableOf n table count p → Good n p → All Normal (threads p) → v .refusal ≡ 11
+  finished-step {out} {p = p} h t g a =
+      let still : step (threads p) ≡ none = normal-no-step (threads p) a in
+      let never : (q : Tree program) (s : Step) → StepsTo n table count q s → ⊥ = λ q s k. impossible (cc (k .steps, ap (λ (x : Tree program). step (threads x)) (table-of-unique (k .table-of) t))) in
+      let accepts = good-table t g in
+      ap (λ (x : Values). x .refusal) (steps-once h (not-stepped Finished (inr (accepts .0, inr (accepts .1 .0, inr (λ k. never (k .0) (k .1 .0) (k .1 .1 .0), inr (accepts .1 .1 .0, inr (λ k. never (k .0) (k .1 .0) (k .1 .1 .0), inl ((p, (t, still)), refl)))))))) .0)
+
+  -- what an accepted run has run
+  pub run-gives : {work : List ℕ} {limit : ℕ} {v : Values} {t w : List ℕ} → RunsWith n table count work limit v t w → v .refusal ≡ 0 → HasRun n table count work limit v t w
+  run-gives {work} {limit} (ran p a t) e =
+      let good : Good n p = table-good (a .0, (a .1 .0, (a .1 .1 .0, tt))) t in
+      let room = room-of n table work in
+      let end : End (List (Tree term)) = run room limit (threads p) in
+      let result-good : Good n (program-of (end .last)) = run-good n room limit (threads p) (rw program-of-threads good) (omega arith) in
+      record {
+        program = p;
+        table-of = t;
+        good = good;
+        end = end;
+        is-run = program-run-is room limit (threads p);
+        rewritings = run-reductions room limit (threads p) (all-both (Closed 0) Coherent (threads p) (all-threads (λ s t. Closed 0 t) (λ t q c. c) p (good .closed)) (good .coherent));
+        values = refl;
+        left = refl;
+        cleared = refl;
+        result-good = result-good;
+        back = front-table (program-of (end .last)) (replicate (length table - length (preorder (program-of (end .last)))) 0) result-good;
+      }
+  run-gives (not-run r g) e = absurd (omega (arith, number-positive r))
+
+  -- a good program in a table is run with a work table that holds it, whatever the step limit
+  pub good-runs : {work : List ℕ} {limit : ℕ} {v : Values} {t w : List ℕ} {p : Tree program} → TableOf n table count p → Good n p → count ≤ holds-nodes work → RunsWith n table count work limit v t w →
+      (v ≡ ran-values (run (room-of n table work) limit (threads p))) × (t ≡ end-table table (run (room-of n table work) limit (threads p) .last))
+  good-runs {p = p} k g r h =
+      let a = good-table k g in
+      let e = runs-once h (ran p (a .0, (a .1 .0, (a .1 .1 .0, ((λ l. omega arith), tt)))) k) in
+      (e .0, e .1)
+
+  -- a good program is always written into an output of the longest text
+  pub good-writes : {out : List ℕ} {v : Values} {o : List ℕ} {p : Tree program} → TableOf n table count p → Good n p → n ≤ 65536 → 12 * n ≤ length out → Writes n table count out v o → (v ≡ accepted (length (text p))) × (o ≡ front (text p) out)
+  good-writes {p = p} t g l r h = good-written-only g t (omega (arith, text-length n p (omega arith) (g .ranges), g .small)) h
