@@ -1,0 +1,178 @@
+/* How much stack each call takes on the deepest inputs: the stack below a call is painted, and what the call has touched is looked for.
+ * tools/stack builds and runs it. */
+#include "../include/mespindro.h"
+
+int printf(const char *, ...);
+
+#define DEEP (6u << 20)
+#define PAINT 0xa5
+
+static uint8_t text[MESPINDRO_TEXT];
+static uint16_t table[MESPINDRO_TABLE], work[MESPINDRO_TABLE];
+static size_t length, nodes;
+
+/* The same frame below each time: `paint` fills it, `touched` looks how far from its far end it is unchanged. */
+__attribute__((noinline)) static void paint(void) {
+    volatile uint8_t below[DEEP];
+    for (size_t i = 0; i < DEEP; i++)
+        below[i] = PAINT;
+}
+
+__attribute__((noinline)) static size_t touched(void) {
+    volatile uint8_t below[DEEP];
+    size_t i = 0;
+    while (i < DEEP && below[i] == PAINT)
+        i++;
+    return DEEP - i;
+}
+
+static void node(uint16_t kind, uint16_t number) {
+    table[2 * nodes] = kind;
+    table[2 * nodes + 1] = number;
+    nodes++;
+}
+
+static void begin(void) {
+    for (size_t i = 0; i < MESPINDRO_TABLE; i++)
+        table[i] = work[i] = 0;
+    nodes = 0;
+    node(1, 0);
+}
+
+static void chars(const char *s) {
+    while (*s)
+        text[length++] = (uint8_t)*s++;
+}
+
+/* levels times `head`, the middle, levels times `tail` */
+static void nested_text(size_t levels, const char *head, const char *middle, const char *tail) {
+    length = 0;
+    chars("(");
+    for (size_t i = 0; i < levels; i++)
+        chars(head);
+    chars(middle);
+    for (size_t i = 0; i < levels; i++)
+        chars(tail);
+    chars(")");
+}
+
+static void told(const char *call, const char *input, unsigned refusal, size_t levels) {
+    size_t bytes = touched();
+    printf("%-9s %-58s refusal %2u %8lu bytes", call, input, refusal, (unsigned long)bytes);
+    if (levels)
+        printf(" %6.1f a level", (double)bytes / (double)levels);
+    printf("\n");
+}
+
+static void reading(const char *input, size_t levels) {
+    paint();
+    unsigned r = mespindro_read(text, length, work, MESPINDRO_TABLE).refusal;
+    told("read", input, r, levels);
+}
+
+static void on_table(const char *input, size_t levels, uint32_t most) {
+    static uint8_t out[MESPINDRO_TEXT];
+    unsigned r;
+    paint();
+    r = mespindro_write(table, MESPINDRO_TABLE, nodes, out, MESPINDRO_TEXT).refusal;
+    told("write", input, r, levels);
+    paint();
+    r = mespindro_standing(table, MESPINDRO_TABLE, nodes, 0).refusal;
+    told("standing", input, r, levels);
+    paint();
+    (void)mespindro_thread(table, MESPINDRO_TABLE, nodes, 0);
+    told("thread", input, 0, levels);
+    paint();
+    r = mespindro_step(table, MESPINDRO_TABLE, nodes, work, MESPINDRO_TABLE).refusal;
+    told("step", input, r, levels);
+    paint();
+    r = mespindro_run(table, MESPINDRO_TABLE, nodes, work, MESPINDRO_TABLE, most).refusal;
+    told("run", input, r, levels);
+}
+
+int main(void) {
+    nested_text(0, "", "", "");
+    reading("()", 0);
+    nested_text(4912, "(1:n", "(1:c1:0)", ")");
+    reading("4,912 nested fresh nodes, the longest text", 4912);
+    nested_text(3508, "(1:l(", "(1:c1:0)", "))");
+    reading("3,508 nested abstractions, the longest text", 3508);
+    nested_text(2045, "(1:n", "(1:c1:0)", ")");
+    reading("2,045 nested fresh nodes", 2045);
+
+    begin();
+    node(4, 1);
+    node(0, 0);
+    on_table("one constructor", 0, 10);
+
+    begin();
+    for (int i = 0; i < 2045; i++)
+        node(8, 0);
+    node(4, 1);
+    node(0, 0);
+    on_table("2,045 nested fresh nodes", 2045, 10);
+
+    begin();
+    for (int i = 0; i < 1022; i++)
+        node(7, 0);
+    for (int i = 0; i < 1023; i++)
+        node(4, 1);
+    node(0, 0);
+    on_table("a structure of 1,022 applications, nested on the left", 1022, 10);
+
+    begin();
+    for (int i = 0; i < 1022; i++) {
+        node(9, 0);
+        node(4, 1);
+    }
+    node(4, 1);
+    node(0, 0);
+    on_table("1,022 guards, nested on the right", 1022, 2000);
+
+    begin();
+    node(7, 0);
+    for (int i = 0; i < 1021; i++) {
+        node(5, 0);
+        node(1, 0);
+    }
+    node(2, 0);
+    for (int i = 0; i < 1021; i++)
+        node(0, 0);
+    nodes = 0;
+    begin();
+    node(7, 0);
+    for (int i = 0; i < 680; i++) {
+        node(5, 0);
+        node(1, 0);
+    }
+    node(2, 0);
+    for (int i = 0; i < 680; i++)
+        node(0, 0);
+    node(4, 1);
+    node(0, 0);
+    on_table("680 nested bodies applied to a constructor", 680, 10);
+
+    begin();
+    node(10, 0);
+    for (int v = 0; v < 2; v++) {
+        for (int i = 0; i < 510; i++)
+            node(7, 0);
+        for (int i = 0; i < 511; i++)
+            node(4, 1);
+    }
+    node(0, 0);
+    on_table("two structures of 510 applications, nested on the left", 510, 10);
+
+    begin();
+    node(10, 0);
+    for (int v = 0; v < 2; v++) {
+        for (int i = 0; i < 510; i++) {
+            node(7, 0);
+            node(4, 1);
+        }
+        node(4, 1);
+    }
+    node(0, 0);
+    on_table("two structures of 510 applications, nested on the right", 510, 10);
+    return 0;
+}
