@@ -9,6 +9,7 @@ use calculus::Counted;
 use calculus::Ran;
 use calculus::Stepped;
 use calculus::Stood;
+use calculus::refusal_number;
 
 // x: the reason, the steps, the count and the text of the end program, in tables of ROOM nodes.
 pub fn run(line: &[u8])
@@ -134,7 +135,7 @@ fn show_stepped(x: Stepped, out: &[u16]) {
             show_program(out, n);
         }
         Stepped::Refused(r) => {
-            show::amount(show::refusal_number(r) as usize);
+            show::amount(refusal_number(r) as usize);
             show::amount(0);
             show::newline();
         }
@@ -168,7 +169,7 @@ fn show_standing(text: &[u8], k: usize, table: &mut [u16]) {
 fn show_stood(x: Stood) {
     match x {
         Stood::Stands(s) => show::standing(s),
-        Stood::Refused(r) => show::amount(show::refusal_number(r) as usize),
+        Stood::Refused(r) => show::amount(refusal_number(r) as usize),
     }
     show::newline();
 }

@@ -1,36 +1,17 @@
 // What is written.
 ghost use mathlib.Core.Path.{_≡_};
-ghost use Rattle.calculus.specs.Answers.{number};
 ghost use Rattle.table.specs.Checks.{checkedNumber};
 use calculus::Counted;
 use calculus::Reason;
 use calculus::Refusal;
 use calculus::Standing;
+use calculus::refusal_number;
 use csexp::Item;
 use libc::STDOUT_FILENO;
 use table::Checked;
 
-// Document 01's number of a refusal.
-pub fn refusal_number(x: Refusal) -> u8
-    ensures { λ r. ⌜ r ≡ number x ⌝ }
-{
-    match x {
-        Refusal::NoProgram => 1,
-        Refusal::TooLong => 2,
-        Refusal::NotCanonical => 3,
-        Refusal::OutOfPlace => 4,
-        Refusal::BadNumber => 5,
-        Refusal::NoBinder => 6,
-        Refusal::TooManyNodes => 7,
-        Refusal::Incoherent => 8,
-        Refusal::NoRoom => 9,
-        Refusal::NoThread => 10,
-        Refusal::Finished => 11,
-    }
-}
-
-// The same of a check's answer, 0 where the table is admitted.
-pub fn checked_number(x: Checked) -> u8
+// The refusal's number of a check's answer, 0 where the table is admitted.
+pub fn checked_number(x: Checked) -> u16
     ensures { λ r. ⌜ r ≡ checkedNumber x ⌝ }
 {
     match x {
@@ -119,7 +100,7 @@ pub fn counted(letter: u8, x: Counted) -> usize {
     }
 }
 
-fn count(letter: u8, refusal: u8, n: usize) {
+fn count(letter: u8, refusal: u16, n: usize) {
     byte(letter);
     amount(refusal as usize);
     amount(n);
