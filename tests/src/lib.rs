@@ -1,7 +1,11 @@
 //! The tests of Mespindro: a binding to the proved library, an independent evaluator, and what compares the two.
 
 pub mod binding;
+pub mod calls;
+pub mod compare;
 pub mod evaluator;
+pub mod generate;
+pub mod random;
 
 /// Runs the work in a thread whose stack holds any nesting, of the library and of the evaluator.
 pub fn on_big_stack<T: Send>(work: impl FnOnce() -> T + Send) -> T {
