@@ -6,6 +6,7 @@ pub mod compare;
 pub mod evaluator;
 pub mod generate;
 pub mod random;
+pub mod shrink;
 
 /// Runs the work in a thread whose stack holds any nesting, of the library and of the evaluator.
 pub fn on_big_stack<T: Send>(work: impl FnOnce() -> T + Send) -> T {
