@@ -5,7 +5,9 @@ pub mod calls;
 pub mod compare;
 pub mod evaluator;
 pub mod generate;
+pub mod notation;
 pub mod random;
+pub mod rules;
 pub mod shrink;
 
 /// Runs the work in a thread whose stack holds any nesting, of the library and of the evaluator.
