@@ -1,0 +1,116 @@
+/* Places tenants on ports: reads a rule set from a file (rules/leaf-48.csexp is one), runs it, and prints a line for each alternative of its
+ * end.
+ *
+ *     cc -O2 examples/place.c target/native/libmespindro.a -o place && ./place rules/leaf-48.csexp
+ *
+ * Its exit status is 0 where every alternative is a placement. A switch that is to be configured from this output must not go on otherwise.
+ */
+#include <stdint.h>
+#include <stdio.h>
+
+#include "../include/mespindro.h"
+
+/* The numbers of the rule sets in rules/. */
+enum { PLACEMENT = 3, PORTS = 5000, TENANTS = 6000, RANGE = 1000 };
+
+/* The node kinds that a placement is made of; a placement has seven nodes, the function before its argument. */
+enum { CONSTRUCTOR = 4, APPLICATION = 7, PLACEMENT_NODES = 7 };
+
+enum { STEP_LIMIT = 10000 };
+
+/* One byte more than a text may have, so that a file that is too long is seen by the library and not cut. */
+static uint8_t text[MESPINDRO_TEXT + 1];
+static uint16_t table[MESPINDRO_TABLE];
+static uint16_t work[MESPINDRO_TABLE];
+
+static const char *refusal_name(uint16_t refusal) {
+    switch (refusal) {
+    case MESPINDRO_NO_PROGRAM: return "the table does not hold a program";
+    case MESPINDRO_TOO_LONG: return "the text is too long";
+    case MESPINDRO_NOT_CANONICAL: return "the text is not one canonical S-expression";
+    case MESPINDRO_OUT_OF_PLACE: return "a list or an atom is out of place";
+    case MESPINDRO_BAD_NUMBER: return "a number is no plain decimal or out of its range";
+    case MESPINDRO_NO_BINDER: return "a bound variable has no binder";
+    case MESPINDRO_TOO_MANY_NODES: return "the program has too many nodes";
+    case MESPINDRO_INCOHERENT: return "a thread is not coherent";
+    case MESPINDRO_NO_ROOM: return "the result does not fit its buffer";
+    case MESPINDRO_NO_THREAD: return "there is no such thread";
+    case MESPINDRO_FINISHED: return "every thread is finished";
+    default: return "a refusal that this program does not know";
+    }
+}
+
+static int refused(const char *call, uint16_t refusal) {
+    printf("%s refused, %u: %s\n", call, (unsigned)refusal, refusal_name(refusal));
+    return 0;
+}
+
+/* A port or a tenant is numbered from its range's base; a small number stands for itself. */
+static unsigned plain(uint16_t constructor, unsigned base) {
+    return constructor >= base && constructor < base + RANGE ? constructor - base : constructor;
+}
+
+/* Is it (a (a (a PLACEMENT tenant) port) vlan), of constructors alone? Prints it then. */
+static int print_placement(const uint16_t *nodes, size_t length) {
+    static const uint16_t kinds[PLACEMENT_NODES] = {APPLICATION, APPLICATION, APPLICATION, CONSTRUCTOR, CONSTRUCTOR, CONSTRUCTOR, CONSTRUCTOR};
+    if (length != 2 * PLACEMENT_NODES) return 0;
+    for (size_t i = 0; i < PLACEMENT_NODES; i++)
+        if (nodes[2 * i] != kinds[i]) return 0;
+    if (nodes[7] != PLACEMENT) return 0;
+    printf("tenant %u -> port %u, VLAN %u\n", plain(nodes[9], TENANTS), plain(nodes[11], PORTS), (unsigned)nodes[13]);
+    return 1;
+}
+
+/* An answer alone is no placement yet: it may hold a free variable, a port that was never decided. */
+static int print_thread(size_t k, uint16_t standing, struct mespindro_part part) {
+    switch (standing) {
+    case MESPINDRO_ANSWER:
+        if (print_placement(table + part.start, part.length)) return 1;
+        printf("thread %zu: an answer, but no placement of known tenant, port and VLAN\n", k);
+        return 0;
+    case MESPINDRO_STUCK: printf("thread %zu: stuck, no rule applies\n", k); return 0;
+    default: printf("thread %zu: open, there was more to do\n", k); return 0;
+    }
+}
+
+/* Prints every thread of the program in the table; true where all are placements. */
+static int print_threads(size_t nodes) {
+    int all = 1;
+    for (size_t k = 0;; k++) {
+        struct mespindro_stand stand = mespindro_standing(table, MESPINDRO_TABLE, nodes, k);
+        if (stand.refusal == MESPINDRO_NO_THREAD) return all;
+        if (stand.refusal != MESPINDRO_ACCEPTED) return refused("standing", stand.refusal);
+        if (!print_thread(k, stand.standing, mespindro_thread(table, MESPINDRO_TABLE, nodes, k))) all = 0;
+    }
+}
+
+static int place(size_t length) {
+    struct mespindro_count read = mespindro_read(text, length, table, MESPINDRO_TABLE);
+    if (read.refusal != MESPINDRO_ACCEPTED) return refused("read", read.refusal);
+    struct mespindro_stop stop = mespindro_run(table, MESPINDRO_TABLE, read.count, work, MESPINDRO_TABLE, STEP_LIMIT);
+    if (stop.refusal != MESPINDRO_ACCEPTED) return refused("run", stop.refusal);
+    if (stop.reason == MESPINDRO_STEPS) printf("stopped after %lu steps: not ended\n", (unsigned long)stop.steps);
+    if (stop.reason == MESPINDRO_ROOM) printf("stopped after %lu steps for want of room: not ended\n", (unsigned long)stop.steps);
+    int all = print_threads(stop.nodes);
+    return all && stop.reason == MESPINDRO_ENDED;
+}
+
+int main(int count, char **arguments) {
+    if (count != 2) {
+        fprintf(stderr, "place FILE\n");
+        return 2;
+    }
+    FILE *file = fopen(arguments[1], "rb");
+    if (!file) {
+        perror(arguments[1]);
+        return 2;
+    }
+    size_t length = fread(text, 1, sizeof text, file);
+    int failed = ferror(file);
+    fclose(file);
+    if (failed) {
+        fprintf(stderr, "%s: cannot be read\n", arguments[1]);
+        return 2;
+    }
+    return place(length) ? 0 : 1;
+}

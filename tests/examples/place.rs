@@ -1,0 +1,128 @@
+//! Places tenants on ports: reads a rule set from a file (rules/leaf-48.csexp is one), runs it, and prints a line for each alternative of its
+//! end. The same as examples/place.c, over the Rust binding.
+//!
+//! Its exit status is 0 where every alternative is a placement. A switch that is to be configured from this output must not go on otherwise.
+
+use std::process::ExitCode;
+
+use mespindro_tests::binding::{self, Reason, Refusal, Standing};
+
+/// The numbers of the rule sets in rules/.
+const PLACEMENT: u16 = 3;
+const PORTS: u16 = 5000;
+const TENANTS: u16 = 6000;
+const RANGE: u16 = 1000;
+
+/// The node kinds that a placement is made of.
+const CONSTRUCTOR: u16 = 4;
+const APPLICATION: u16 = 7;
+
+/// Numbers of a table for any program.
+const TABLE: usize = 4096;
+const STEP_LIMIT: u32 = 10_000;
+
+fn refusal_name(refusal: Refusal) -> &'static str {
+    match refusal {
+        Refusal::NoProgram => "the table does not hold a program",
+        Refusal::TooLong => "the text is too long",
+        Refusal::NotCanonical => "the text is not one canonical S-expression",
+        Refusal::OutOfPlace => "a list or an atom is out of place",
+        Refusal::BadNumber => "a number is no plain decimal or out of its range",
+        Refusal::NoBinder => "a bound variable has no binder",
+        Refusal::TooManyNodes => "the program has too many nodes",
+        Refusal::Incoherent => "a thread is not coherent",
+        Refusal::NoRoom => "the result does not fit its buffer",
+        Refusal::NoThread => "there is no such thread",
+        Refusal::Finished => "every thread is finished",
+    }
+}
+
+fn refused(call: &str, refusal: Refusal) -> bool {
+    let (number, name) = (refusal.number(), refusal_name(refusal));
+    println!("{call} refused, {number}: {name}");
+    false
+}
+
+/// A port or a tenant is numbered from its range's base; a small number stands for itself.
+fn plain(constructor: u16, base: u16) -> u16 {
+    match constructor.checked_sub(base) {
+        Some(number) if number < RANGE => number,
+        _ => constructor,
+    }
+}
+
+/// Tenant, port and VLAN of (a (a (a PLACEMENT tenant) port) vlan), if the thread is that, of constructors alone.
+fn placement(nodes: &[u16]) -> Option<(u16, u16, u16)> {
+    const A: u16 = APPLICATION;
+    const C: u16 = CONSTRUCTOR;
+    match *nodes {
+        [A, _, A, _, A, _, C, PLACEMENT, C, tenant, C, port, C, vlan] => {
+            Some((plain(tenant, TENANTS), plain(port, PORTS), vlan))
+        }
+        _ => None,
+    }
+}
+
+/// An answer alone is no placement yet: it may hold a free variable, a port that was never decided.
+fn print_thread(k: usize, standing: Standing, nodes: &[u16]) -> bool {
+    match (standing, placement(nodes)) {
+        (Standing::Answer, Some((tenant, port, vlan))) => {
+            println!("tenant {tenant} -> port {port}, VLAN {vlan}");
+            return true;
+        }
+        (Standing::Answer, None) => {
+            println!("thread {k}: an answer, but no placement of known tenant, port and VLAN")
+        }
+        (Standing::Stuck, _) => println!("thread {k}: stuck, no rule applies"),
+        (Standing::Open, _) => println!("thread {k}: open, there was more to do"),
+    }
+    false
+}
+
+/// Prints every thread of the program in the table; true where all are placements.
+fn print_threads(table: &[u16], count: usize) -> bool {
+    let mut all = true;
+    for k in 0.. {
+        match binding::standing(table, count, k) {
+            Ok(standing) => all &= print_thread(k, standing, binding::thread(table, count, k)),
+            Err(Refusal::NoThread) => break,
+            Err(refusal) => return refused("standing", refusal),
+        }
+    }
+    all
+}
+
+fn place(text: &[u8]) -> bool {
+    let mut table = [0; TABLE];
+    let count = match binding::read(text, &mut table) {
+        Ok(count) => count,
+        Err(refusal) => return refused("read", refusal),
+    };
+    let stop = match binding::run(&mut table, count, &mut [0; TABLE], STEP_LIMIT) {
+        Ok(stop) => stop,
+        Err(refusal) => return refused("run", refusal),
+    };
+    let steps = stop.steps;
+    match stop.reason {
+        Reason::Ended => {}
+        Reason::Steps => println!("stopped after {steps} steps: not ended"),
+        Reason::Room => println!("stopped after {steps} steps for want of room: not ended"),
+    }
+    print_threads(&table, stop.nodes) && stop.reason == Reason::Ended
+}
+
+fn main() -> ExitCode {
+    let arguments: Vec<String> = std::env::args().skip(1).collect();
+    let [file] = arguments.as_slice() else {
+        eprintln!("place FILE");
+        return ExitCode::from(2);
+    };
+    match std::fs::read(file) {
+        Ok(text) if place(&text) => ExitCode::SUCCESS,
+        Ok(_) => ExitCode::from(1),
+        Err(error) => {
+            eprintln!("{file}: {error}");
+            ExitCode::from(2)
+        }
+    }
+}

@@ -1,0 +1,58 @@
+//! `fuzz SECONDS [SEED]`: compares the library with the evaluator on random inputs for so long. Prints the seed first; where the two differ,
+//! the smallest call it finds that still does, and ends with status 1.
+
+use mespindro_tests::calls::random_calls;
+use mespindro_tests::compare::{compare, Call, Tally};
+use mespindro_tests::on_big_stack;
+use mespindro_tests::random::Random;
+use mespindro_tests::shrink::shrink;
+use std::process::ExitCode;
+use std::time::{Duration, Instant, SystemTime};
+
+fn main() -> ExitCode {
+    let numbers: Vec<u64> = std::env::args().skip(1).flat_map(|a| a.parse()).collect();
+    let (seconds, seed) = match numbers[..] {
+        [seconds] => (seconds, seed_of_now()),
+        [seconds, seed] => (seconds, seed),
+        _ => {
+            eprintln!("fuzz SECONDS [SEED]");
+            return ExitCode::from(2);
+        }
+    };
+    println!("seed {seed}");
+    on_big_stack(|| fuzz(Duration::from_secs(seconds), seed))
+}
+
+fn seed_of_now() -> u64 {
+    let now = SystemTime::now().duration_since(SystemTime::UNIX_EPOCH);
+    now.map_or(0, |past| past.as_nanos() as u64)
+}
+
+fn fuzz(time: Duration, seed: u64) -> ExitCode {
+    let start = Instant::now();
+    let mut random = Random::new(seed);
+    let mut tally = Tally::default();
+    let mut inputs = 0;
+    while start.elapsed() < time {
+        for call in random_calls(&mut random) {
+            if tally.compare(&call).is_err() {
+                println!("input {inputs}");
+                report(shrink(call));
+                return ExitCode::FAILURE;
+            }
+        }
+        inputs += 1;
+    }
+    println!("{inputs} inputs, {tally}");
+    ExitCode::SUCCESS
+}
+
+fn report(call: Call) {
+    if let Err(difference) = compare(&call) {
+        println!("{difference}");
+    }
+    println!("{call:?}");
+    if let Call::Read { text, .. } = &call {
+        println!("text {}", text.escape_ascii());
+    }
+}

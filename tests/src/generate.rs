@@ -1,0 +1,376 @@
+//! Random programs, texts and tables.
+
+use crate::evaluator::text::{program_expression, put_expression, write_text, Expression};
+use crate::evaluator::tree::{application, fresh, guard, unification, Program, Term};
+use crate::random::Random;
+
+/// A program that is closed, coherent and in range.
+pub fn sound_program(random: &mut Random) -> Program {
+    program(random, Faults { one_in: 0 })
+}
+
+/// A program in which a bound variable may have no binder and a thread may be incoherent.
+pub fn faulty_program(random: &mut Random) -> Program {
+    program(random, Faults { one_in: 12 })
+}
+
+fn program(random: &mut Random, faults: Faults) -> Program {
+    let threads = random.pick(&[0, 1, 1, 1, 2, 2, 3, 5]);
+    let budget = random.pick(&[4, 8, 16, 16, 32, 32, 64, 200]);
+    (0..threads)
+        .map(|_| Thread::new(random, faults).lively(budget, 0))
+        .collect()
+}
+
+/// How often a number is taken without regard to soundness; 0 is never.
+#[derive(Clone, Copy)]
+struct Faults {
+    one_in: usize,
+}
+
+/// What the terms of one thread have in common: its allocated abstractions.
+struct Thread<'r> {
+    random: &'r mut Random,
+    faults: Faults,
+    closures: Vec<(u16, Program)>,
+}
+
+impl Thread<'_> {
+    fn new(random: &mut Random, faults: Faults) -> Thread<'_> {
+        let mut thread = Thread {
+            random,
+            faults,
+            closures: Vec::new(),
+        };
+        for _ in 0..thread.random.below(4) {
+            let location = thread.random.pick(&[0, 1, 2, 3, 7, 2046, 2047]);
+            let body = thread.body(6, 0);
+            // a body made so far has only locations made before it, so no closure holds its own
+            if thread.closures.iter().all(|(l, _)| *l != location) {
+                thread.closures.push((location, body));
+            }
+        }
+        thread
+    }
+
+    fn fault(&mut self) -> bool {
+        self.faults.one_in > 0 && self.random.one_in(self.faults.one_in)
+    }
+
+    /// The alternatives of a body inside `binders` binders.
+    fn body(&mut self, budget: usize, binders: usize) -> Program {
+        let alternatives = self.random.pick(&[0, 1, 1, 1, 2, 2, 3]);
+        (0..alternatives)
+            .map(|_| self.lively(budget / alternatives, binders + 1))
+            .collect()
+    }
+
+    /// A term that is likely to have something to do.
+    fn lively(&mut self, budget: usize, binders: usize) -> Term {
+        if budget <= 1 {
+            return self.leaf(binders);
+        }
+        let left = self.random.between(1, budget - 1);
+        let right = budget - left;
+        match self.random.below(13) {
+            0 | 1 => fresh(self.lively(budget - 1, binders + 1)),
+            2 | 3 => {
+                let goal = self.goal(left, binders);
+                guard(goal, self.lively(right, binders))
+            }
+            4 => self.goal(budget, binders),
+            5 | 6 => {
+                let function = Term::Abstraction(self.body(left, binders));
+                application(function, self.lively(right, binders))
+            }
+            7 => {
+                let function = self.closure(left, binders);
+                application(function, self.value(right, binders))
+            }
+            8 => guard(self.lively(left, binders), self.lively(right, binders)),
+            9 => unification(self.lively(left, binders), self.lively(right, binders)),
+            10 => application(self.lively(left, binders), self.lively(right, binders)),
+            11 => Term::Abstraction(self.body(budget, binders)),
+            _ => self.value(budget, binders),
+        }
+    }
+
+    fn leaf(&mut self, binders: usize) -> Term {
+        if self.fault() {
+            return Term::Bound(self.random.below(binders + 3) as u16);
+        }
+        match self.random.below(8) {
+            0..=2 if binders > 0 => Term::Bound(self.random.below(binders) as u16),
+            0..=4 => self.variable(),
+            5 => self.closure(4, binders),
+            _ => self.constructor(),
+        }
+    }
+
+    fn variable(&mut self) -> Term {
+        Term::Free(self.random.pick(&[0, 0, 1, 1, 2, 3, 4, 5, 2047]))
+    }
+
+    fn constructor(&mut self) -> Term {
+        Term::Constructor(self.random.pick(&[0, 1, 1, 2, 3, 65535]))
+    }
+
+    /// One of the thread's allocated abstractions.
+    fn closure(&mut self, budget: usize, binders: usize) -> Term {
+        if self.fault() {
+            let location = self.random.below(4) as u16;
+            return Term::Allocated(location, self.body(budget, binders));
+        }
+        if self.closures.is_empty() {
+            return self.constructor();
+        }
+        let (location, body) = &self.closures[self.random.below(self.closures.len())];
+        Term::Allocated(*location, body.clone())
+    }
+
+    /// A value, or what becomes one when the binders around it are gone.
+    fn value(&mut self, budget: usize, binders: usize) -> Term {
+        if budget <= 2 || self.random.one_in(5) {
+            return self.leaf(binders);
+        }
+        let mut structure = self.constructor();
+        let mut left = budget - 1;
+        while left > 1 && !self.random.one_in(4) {
+            let part = self.random.between(1, left - 1);
+            structure = application(structure, self.value(part, binders));
+            left -= part;
+        }
+        structure
+    }
+
+    fn goal(&mut self, budget: usize, binders: usize) -> Term {
+        let (left, right) = self.pair(budget / 2, binders);
+        unification(left, right)
+    }
+
+    /// Two values that are often unifiable: alike but for variables, with a clash now and then.
+    fn pair(&mut self, budget: usize, binders: usize) -> (Term, Term) {
+        match self.random.below(12) {
+            0 => (
+                self.value(budget, binders),
+                self.value(budget.min(6), binders),
+            ),
+            1 | 2 => (self.variable(), self.value(budget, binders)),
+            3 | 4 => (self.value(budget, binders), self.variable()),
+            5 if binders > 0 => {
+                let index = self.random.below(binders) as u16;
+                (Term::Bound(index), self.value(budget, binders))
+            }
+            _ if budget > 2 => {
+                let part = self.random.between(1, budget - 1);
+                let (f, g) = self.pair_of_structures(budget - part, binders);
+                let (a, b) = self.pair(part, binders);
+                (application(f, a), application(g, b))
+            }
+            _ => {
+                let same = self.leaf(binders);
+                (same.clone(), same)
+            }
+        }
+    }
+
+    fn pair_of_structures(&mut self, budget: usize, binders: usize) -> (Term, Term) {
+        if budget <= 2 {
+            let head = self.constructor();
+            return (head.clone(), head);
+        }
+        let part = self.random.between(1, budget - 1);
+        let (f, g) = self.pair_of_structures(budget - part, binders);
+        let (a, b) = self.pair(part, binders);
+        (application(f, a), application(g, b))
+    }
+}
+
+/// A text: of a program, damaged, of nearly the right form, or of the letters of texts only.
+pub fn text(random: &mut Random) -> Vec<u8> {
+    match random.below(10) {
+        0 => write_text(&sound_program(random)),
+        1 => write_text(&faulty_program(random)),
+        2 | 3 => odd_form(random),
+        4 => letters(random),
+        _ => {
+            let mut text = write_text(&faulty_program(random));
+            for _ in 0..random.pick(&[1, 1, 1, 2, 4]) {
+                damage(&mut text, random);
+            }
+            text
+        }
+    }
+}
+
+/// The text of a program's expression with members dropped, doubled, replaced, and numbers and tags changed.
+fn odd_form(random: &mut Random) -> Vec<u8> {
+    let mut expression = program_expression(&faulty_program(random));
+    for _ in 0..random.between(1, 3) {
+        let place = random.below(40);
+        change_form(&mut expression, &mut { place }, random);
+    }
+    let mut text = Vec::new();
+    put_expression(&expression, &mut text);
+    text
+}
+
+/// Changes the expression that comes `left` places behind, in preorder, or the last.
+fn change_form(expression: &mut Expression, left: &mut usize, random: &mut Random) {
+    if *left == 0 {
+        *expression = changed(expression, random);
+        return;
+    }
+    *left -= 1;
+    if let Expression::List(members) = expression {
+        for member in members {
+            change_form(member, left, random);
+            if *left == 0 {
+                return;
+            }
+        }
+    }
+}
+
+fn changed(expression: &Expression, random: &mut Random) -> Expression {
+    let numbers = [
+        "0",
+        "1",
+        "2",
+        "3",
+        "00",
+        "01",
+        "",
+        "+1",
+        "-1",
+        "2047",
+        "2048",
+        "65535",
+        "65536",
+        "x",
+        "1 ",
+        "4294967296",
+        "18446744073709551616",
+        "18446744073709551617",
+    ];
+    let tags = [
+        "v", "x", "c", "l", "L", "a", "n", "g", "u", "V", "z", "", "cc",
+    ];
+    let atom = |word: &str| Expression::Atom(word.as_bytes().to_vec());
+    match (random.below(6), expression) {
+        (0, _) => Expression::List(Vec::new()),
+        (1, Expression::List(members)) if !members.is_empty() => {
+            let mut members = members.clone();
+            members.pop();
+            Expression::List(members)
+        }
+        (2, Expression::List(members)) if !members.is_empty() => {
+            let mut members = members.clone();
+            let twice = members[random.below(members.len())].clone();
+            members.insert(random.below(members.len() + 1), twice);
+            Expression::List(members)
+        }
+        (3, whole) => Expression::List(vec![whole.clone()]),
+        (4, Expression::Atom(_)) => atom(random.pick(&tags)),
+        _ => atom(random.pick(&numbers)),
+    }
+}
+
+/// Some of the letters that texts are made of.
+fn letters(random: &mut Random) -> Vec<u8> {
+    let pieces: [&[u8]; 24] = [
+        b"(",
+        b"(",
+        b")",
+        b")",
+        b"1:c",
+        b"1:v",
+        b"1:x",
+        b"1:l",
+        b"1:L",
+        b"1:a",
+        b"1:n",
+        b"1:g",
+        b"1:u",
+        b"1:0",
+        b"1:1",
+        b"0:",
+        b"00:",
+        b"01:0",
+        b"2:10",
+        b"2:()",
+        b":",
+        b"99999999999999999999:",
+        b" ",
+        b"[1:h]",
+    ];
+    let length = random.below(12);
+    let mut text: Vec<u8> = b"(".to_vec();
+    for _ in 0..length {
+        text.extend(random.pick(&pieces));
+    }
+    while random.one_in(2) {
+        text.push(b')');
+    }
+    text
+}
+
+/// One change of the bytes: cut, flipped, lengthened, joined, a leading zero.
+fn damage(text: &mut Vec<u8>, random: &mut Random) {
+    let place = random.below(text.len() + 1);
+    let byte = random.pick(b"()0123456789:vxclLangu \n\0\xff");
+    match random.below(9) {
+        0 => text.truncate(place),
+        1 if place < text.len() => text[place] ^= 1 << random.below(8),
+        2 if place < text.len() => text[place] = byte,
+        3 => text.insert(place, byte),
+        4 => text.push(byte),
+        5 => text.extend(write_text(&sound_program(random))),
+        6 if place < text.len() => {
+            text.remove(place);
+        }
+        7 => {
+            let colon = text[place..].iter().position(|b| *b == b':');
+            if let Some(behind) = colon {
+                // before the length's last digit
+                text.insert((place + behind).saturating_sub(1), b'0');
+            }
+        }
+        _ => {
+            let end = (place + random.below(20)).min(text.len());
+            let part = text[place..end].to_vec();
+            text.splice(place..place, part);
+        }
+    }
+}
+
+/// A table of numbers that need not be a program.
+pub fn any_table(random: &mut Random) -> Vec<u16> {
+    let length = random.pick(&[0, 1, 2, 3, 4, 6, 8, 9, 14, 20, 31, 40]);
+    let wild = random.one_in(4);
+    let number = |random: &mut Random, place: usize| match place % 2 {
+        _ if wild => random.next() as u16,
+        0 => random.pick(&[0, 0, 1, 1, 1, 2, 3, 4, 4, 5, 6, 7, 8, 9, 10, 11, 12]),
+        _ => random.pick(&[0, 0, 0, 0, 0, 0, 1, 2, 2047, 2048, 65535]),
+    };
+    (0..length).map(|place| number(random, place)).collect()
+}
+
+/// A program's table with a few numbers changed, or some nodes taken out or doubled.
+pub fn damaged_table(table: &[u16], random: &mut Random) -> Vec<u16> {
+    let mut table = table.to_vec();
+    for _ in 0..random.between(1, 3) {
+        let place = random.below(table.len());
+        match random.below(5) {
+            0 => table[place] = random.pick(&[0, 1, 2, 4, 6, 8, 10, 11, 2047, 2048, 65535]),
+            1 => table[place] = table[place].wrapping_add(1),
+            2 => table[place / 2 * 2] = random.below(12) as u16,
+            3 if table.len() > 2 => {
+                let node = place / 2 * 2;
+                table.drain(node..(node + 2).min(table.len()));
+            }
+            _ => table.truncate(place.max(1)),
+        }
+    }
+    table
+}
