@@ -117,7 +117,8 @@ fn runs(table: &[u16], random: &mut Random) -> Vec<Call> {
         let wide = 2 * NODES + random.pick(&[0, 0, 1, 100]);
         let less = (2 * room).saturating_sub(random.below(4));
         let short = (2 * count).saturating_sub(random.between(1, 2));
-        for (table_length, work) in [(tight, wide), (wide, tight), (wide, less), (wide, short)] {
+        let lengths = [(tight, wide), (wide, tight), (wide, less), (wide, short)];
+        for (table_length, work) in [lengths[random.below(3)], random.pick(&lengths)] {
             calls.push(Call::Run {
                 table: lengthened(table, table_length, random),
                 count,

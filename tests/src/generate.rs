@@ -1,7 +1,7 @@
 //! Random programs, texts and tables.
 
 use crate::evaluator::text::{program_expression, put_expression, write_text, Expression};
-use crate::evaluator::tree::{application, fresh, guard, unification, Program, Term};
+use crate::evaluator::tree::{application, fresh, guard, program_size, unification, Program, Term};
 use crate::random::Random;
 
 /// A program that is closed, coherent and in range.
@@ -16,10 +16,74 @@ pub fn faulty_program(random: &mut Random) -> Program {
 
 fn program(random: &mut Random, faults: Faults) -> Program {
     let threads = random.pick(&[0, 1, 1, 1, 2, 2, 3, 5]);
-    let budget = random.pick(&[4, 8, 16, 16, 32, 32, 64, 200]);
+    let budget = random.pick(&[4, 8, 16, 16, 32, 32, 64, 64, 100, 500]);
     (0..threads)
-        .map(|_| Thread::new(random, faults).lively(budget, 0))
+        .map(|_| match random.below(12) {
+            0 => growing(random),
+            _ => Thread::new(random, faults).lively(budget, 0),
+        })
         .collect()
+}
+
+/// A thread that grows, until it ends or passes the room.
+fn growing(random: &mut Random) -> Term {
+    let inner = sound_leaf(random);
+    match random.below(4) {
+        0 => (0..random.between(1, 12)).fold(inner, |term, _| {
+            let twice = vec![application(
+                application(Term::Constructor(1), Term::Bound(0)),
+                Term::Bound(0),
+            )];
+            application(Term::Abstraction(twice), term)
+        }),
+        1 => (0..random.between(1, 10)).fold(inner, |term, _| {
+            let choice = vec![Term::Bound(0), Term::Constructor(2), Term::Free(1)];
+            let choice = application(Term::Abstraction(choice), Term::Constructor(1));
+            application(application(Term::Constructor(9), choice), term)
+        }),
+        2 => {
+            let itself = application(Term::Bound(0), Term::Bound(0));
+            let body = match random.below(3) {
+                0 => application(itself, Term::Bound(0)),
+                1 => application(inner, itself),
+                _ => guard(unification(inner.clone(), inner), itself),
+            };
+            let function = Term::Abstraction(vec![body]);
+            application(function.clone(), function)
+        }
+        _ => tower(random.between(1, 11) as u16, random),
+    }
+}
+
+fn sound_leaf(random: &mut Random) -> Term {
+    match random.below(2) {
+        0 => Term::Free(random.below(3) as u16),
+        _ => Term::Constructor(random.below(3) as u16),
+    }
+}
+
+/// A goal whose values double from variable to variable, with some of the variables kept beside it.
+fn tower(levels: u16, random: &mut Random) -> Term {
+    let pair = |i| {
+        application(
+            application(Term::Constructor(8), Term::Free(i)),
+            Term::Free(i),
+        )
+    };
+    let (mut left, mut right) = (Term::Constructor(9), Term::Constructor(9));
+    for i in 0..levels {
+        left = application(left, Term::Free(i + 1));
+        right = application(right, pair(i));
+    }
+    let goal = unification(left, right);
+    match random.below(3) {
+        0 => goal,
+        1 => guard(
+            goal,
+            Term::Free(random.below(usize::from(levels) + 1) as u16),
+        ),
+        _ => application(Term::Constructor(7), application(goal, Term::Free(levels))),
+    }
 }
 
 /// How often a number is taken without regard to soundness; 0 is never.
@@ -188,11 +252,15 @@ impl Thread<'_> {
 
 /// A text: of a program, damaged, of nearly the right form, or of the letters of texts only.
 pub fn text(random: &mut Random) -> Vec<u8> {
-    match random.below(10) {
+    if random.one_in(60) {
+        return large_text(random);
+    }
+    match random.below(11) {
         0 => write_text(&sound_program(random)),
         1 => write_text(&faulty_program(random)),
         2 | 3 => odd_form(random),
-        4 => letters(random),
+        4 => odd_numbers(random),
+        5 => letters(random),
         _ => {
             let mut text = write_text(&faulty_program(random));
             for _ in 0..random.pick(&[1, 1, 1, 2, 4]) {
@@ -215,6 +283,44 @@ fn odd_form(random: &mut Random) -> Vec<u8> {
     text
 }
 
+/// The text of a program in which some numbers are of another form or out of their range.
+fn odd_numbers(random: &mut Random) -> Vec<u8> {
+    let mut expression = program_expression(&faulty_program(random));
+    change_numbers(&mut expression, random);
+    let mut text = Vec::new();
+    put_expression(&expression, &mut text);
+    text
+}
+
+fn change_numbers(expression: &mut Expression, random: &mut Random) {
+    let Expression::List(members) = expression else {
+        return;
+    };
+    for (place, member) in members.iter_mut().enumerate() {
+        match member {
+            Expression::Atom(number) if place == 1 && random.one_in(6) => {
+                *number = random.pick(&NUMBERS).as_bytes().to_vec();
+            }
+            _ => change_numbers(member, random),
+        }
+    }
+}
+
+/// The text of a program's threads over and over, about as many nodes as a program may have.
+fn large_text(random: &mut Random) -> Vec<u8> {
+    let threads = match random.below(3) {
+        0 => faulty_program(random),
+        _ => sound_program(random),
+    };
+    let mut program = Vec::new();
+    let nodes = random.between(2000, 2080);
+    while !threads.is_empty() && program_size(&program) < nodes {
+        program.push(threads[program.len() % threads.len()].clone());
+        program.push(Term::Constructor(1));
+    }
+    write_text(&program)
+}
+
 /// Changes the expression that comes `left` places behind, in preorder, or the last.
 fn change_form(expression: &mut Expression, left: &mut usize, random: &mut Random) {
     if *left == 0 {
@@ -232,27 +338,29 @@ fn change_form(expression: &mut Expression, left: &mut usize, random: &mut Rando
     }
 }
 
+/// Atoms for a number's place: plain decimals in and out of range, and others.
+const NUMBERS: [&str; 18] = [
+    "0",
+    "1",
+    "2",
+    "3",
+    "00",
+    "01",
+    "",
+    "+1",
+    "-1",
+    "2047",
+    "2048",
+    "65535",
+    "65536",
+    "x",
+    "1 ",
+    "4294967296",
+    "18446744073709551616",
+    "18446744073709551617",
+];
+
 fn changed(expression: &Expression, random: &mut Random) -> Expression {
-    let numbers = [
-        "0",
-        "1",
-        "2",
-        "3",
-        "00",
-        "01",
-        "",
-        "+1",
-        "-1",
-        "2047",
-        "2048",
-        "65535",
-        "65536",
-        "x",
-        "1 ",
-        "4294967296",
-        "18446744073709551616",
-        "18446744073709551617",
-    ];
     let tags = [
         "v", "x", "c", "l", "L", "a", "n", "g", "u", "V", "z", "", "cc",
     ];
@@ -272,7 +380,7 @@ fn changed(expression: &Expression, random: &mut Random) -> Expression {
         }
         (3, whole) => Expression::List(vec![whole.clone()]),
         (4, Expression::Atom(_)) => atom(random.pick(&tags)),
-        _ => atom(random.pick(&numbers)),
+        _ => atom(random.pick(&NUMBERS)),
     }
 }
 
