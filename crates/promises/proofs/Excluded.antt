@@ -2,101 +2,29 @@
 use mathlib.Core.Path.{_≡_, refl, sym, ap, _∙_}
 use mathlib.Core.Logic.{_⊎_, inl, inr}
 use mathlib.Core.List.{List, [], _∷_, _++_}
-use mathlib.Core.Option.{none, some, bind}
-use Prim.Native.Nat.{ℕ, suc, _*_, _-_, _≤_}
+use mathlib.Core.Option.{some, bind}
+use Prim.Native.Nat.{ℕ, suc, _-_, _≤_}
 use native.Mathlib.Omega.{arith}
-use lib.ListN.{getD, take, length-append}
-use lib.Seq.{take-at}
-use Rattle.calculus.specs.declared.Refusal.the-variants.{Finished}
+use lib.ListN.{getD, take}
 use Rattle.calculus.specs.declared.Reason.the-variants.{Ended}
 use Rattle.calculus.specs.Tree.{Sort, term, program, guard, unif, Head, code, at, Tree, empty, alt, bound, free, con, abs, fresh, two, preorder, nodes, threads, program-of, uses}
 use Rattle.calculus.specs.Put.{substitute}
 use Rattle.calculus.specs.Value.{single, structure, value}
 use Rattle.calculus.specs.Unify.{one, all, shape, takes, carry, meet, solve, unify}
 use Rattle.calculus.specs.Redex.{plug, own, redexes}
-use Rattle.calculus.specs.Step.{rewriting, first, step-thread, Step, step}
+use Rattle.calculus.specs.Step.{rewriting, first, step-thread, step}
 use Rattle.calculus.specs.Run.{End, size, later, next-program, run, holds-nodes, room-of}
-use Rattle.calculus.specs.Sexp.{list}
-use Rattle.calculus.specs.Text.{raw-empty, encode, raw, raw-text, text}
-use Rattle.calculus.specs.Good.{Closed, Holds, Coherent, All, Good}
+use Rattle.calculus.specs.Text.{text}
+use Rattle.calculus.specs.Good.{InRange, Closed, Holds, Coherent, All, Good}
 use Rattle.calculus.specs.Answers.{Values}
-use Rattle.calculus.specs.Calls.{front, TextOf, Reads, read, TableOf, end-table, ran-values, StepsTo, StepsInto, stepped, not-stepped, RunsWith, ran}
-use Rattle.calculus.proofs.Substitutes.{impossible}
+use Rattle.calculus.specs.Calls.{front, TextOf, Reads, TableOf, end-table, ran-values, StepsInto, RunsWith}
 use Rattle.calculus.proofs.Alls.{all-each}
-use Rattle.calculus.proofs.Preorders.{preorder-length, threads-of-program}
-use Rattle.calculus.proofs.Texts.{text-injective, text-length}
-use Rattle.calculus.proofs.Outcomes.{table-of-unique, reads-once, steps-once, runs-once}
+use Rattle.calculus.proofs.Preorders.{threads-of-program}
+use Rattle.calculus.proofs.Texts.{text-injective}
 use Rattle.calculus.proofs.Machines.{run-ended, run-goes}
-use Rattle.calculus.proofs.Exclusions.{step-accepts}
-use Rattle.text.proofs.RoundTrip.{accepted}
-
--- What comes of a good program in a table.
-module _ {n : ℕ} {table : List ℕ} {count : ℕ} {p : Tree program} (h : TableOf n table count p) (g : Good n p) where
-  same : (q : Tree program) → TableOf n table count q → q ≡ p
-  same q f = table-of-unique f h
-
-  -- its single step, if the result has room
-  pub good-steps : {s : Step} {out : List ℕ} {v : Values} {o : List ℕ} → step (threads p) ≡ some s → size (s .result) ≤ n → size (s .result) ≤ holds-nodes out → StepsInto n table count out v o →
-      (v ≡ accepted (size (s .result))) × (o ≡ front (preorder (program-of (s .result))) out)
-  good-steps {s} {out} e l r i =
-      let once : (q : Tree program) (x : Step) → StepsTo n table count q x → x ≡ s = λ q x f. let j = rw (same q (f .table-of)) at (f .steps) in cc in
-      steps-once i (
-      stepped p s (
-        (λ f. f p h),
-        (
-          (λ f. f .1 .1 (rw (same (f .0) (f .1 .0)) (g .closed))),
-          (
-            (λ f. omega (arith, f .1 .1 .1 .1, ap (λ (x : Step). size (x .result)) (once (f .0) (f .1 .0) (f .1 .1 .0)))),
-            (
-              (λ f. f .1 .1 (rw (same (f .0) (f .1 .0)) (g .coherent))),
-              (
-                (λ f. omega (arith, f .1 .1 .1, ap (λ (x : Step). size (x .result)) (once (f .0) (f .1 .0) (f .1 .1 .0)))),
-                ((λ f. let j = rw (same (f .0) (f .1 .0)) at (f .1 .1) in impossible (cc)), tt),
-              ),
-            ),
-          ),
-        ),
-      )
-      (record { table-of = h; steps = e })
-      )
-
-  -- 11 where it has no step
-  pub good-stopped : {out : List ℕ} {v : Values} {o : List ℕ} → step (threads p) ≡ none → StepsInto n table count out v o → (v ≡ record { refusal = 11; values = 0 ∷ [] }) × (o ≡ out)
-  good-stopped e i =
-      let none-there : (q : Tree program) (x : Step) → StepsTo n table count q x → ⊥ = λ q x f. let j = rw (same q (f .table-of)) at (f .steps) in impossible (cc) in
-      steps-once i (
-      not-stepped Finished (
-      inr (
-        (λ f. f p h),
-        inr (
-          (λ f. f .1 .1 (rw (same (f .0) (f .1 .0)) (g .closed))),
-          inr (
-            (λ f. none-there (f .0) (f .1 .0) (f .1 .1 .0)),
-            inr (
-              (λ f. f .1 .1 (rw (same (f .0) (f .1 .0)) (g .coherent))),
-              inr ((λ f. none-there (f .0) (f .1 .0) (f .1 .1 .0)), inl ((p, (h, e)), refl)),
-            ),
-          ),
-        ),
-      )
-      )
-      )
-
-  -- its run, if the work table holds it
-  pub good-runs : {work : List ℕ} {limit : ℕ} {v : Values} {t w : List ℕ} → count ≤ holds-nodes work → RunsWith n table count work limit v t w →
-      let e = run (room-of n table work) limit (threads p) in (v ≡ ran-values e) × (t ≡ end-table table (e .last))
-  good-runs {work} {limit} l i =
-      let z = runs-once i (
-      ran p (
-        (λ f. f p h),
-        (
-          (λ f. f .1 .1 (rw (same (f .0) (f .1 .0)) (g .closed))),
-          ((λ f. f .1 .1 (rw (same (f .0) (f .1 .0)) (g .coherent))), ((λ f. omega arith), tt)),
-        ),
-      )
-      h
-      ) in
-      (z .0, z .1)
+use Rattle.calculus.proofs.Exclusions.{step-accepts, reader-accepts}
+use Rattle.promises.proofs.Refused.{reads-exactly}
+use Rattle.promises.proofs.Worked.{good-steps, good-runs}
 
 -- Coherence of threads with at most one allocated abstraction.
 
@@ -162,13 +90,13 @@ one-coherent t h = go (closures t) h (λ l q. holds-among l q t)
     }
     go (c ∷ d ∷ cs) o f = absurd o
 
--- threads that stand in a table are a good program if they are closed and have one allocated abstraction at most
-held-good : {n : ℕ} {table : List ℕ} {count : ℕ} (ts : List (Tree term)) → TableOf n table count (program-of ts) → Closed 0 (program-of ts) → All (λ t. OneAtMost (closures t)) ts → Good n (program-of ts)
-held-good ts h c o = record { small = omega (arith, h .counts, h .small); ranges = h .ranges; closed = c; coherent = rw threads-of-program (all-each (λ t. OneAtMost (closures t)) Coherent ts one-coherent o) }
+-- threads within the limit and in range are a good program if they are closed and have one allocated abstraction at most
+pub one-good : {n : ℕ} (ts : List (Tree term)) → size ts ≤ n → InRange n (program-of ts) → Closed 0 (program-of ts) → All (λ t. OneAtMost (closures t)) ts → Good n (program-of ts)
+one-good ts l r c o = record { small = l; ranges = r; closed = c; coherent = rw threads-of-program (all-each (λ t. OneAtMost (closures t)) Coherent ts one-coherent o) }
 
--- a good program's own numbers are a table that holds it, whatever stands behind them: what is said below is said of something
-pub own-table : {n : ℕ} {p : Tree program} (r : List ℕ) → Good n p → TableOf n (preorder p ++ r) (nodes p) p
-own-table {p = p} r g = record { counts = refl; small = g .small; within = omega (arith, preorder-length p, length-append (preorder p) r); is = take-at (preorder p) r (2 * nodes p) (preorder-length p); ranges = g .ranges }
+-- threads that stand in a table are within the limit and in range
+held-good : {n : ℕ} {table : List ℕ} {count : ℕ} (ts : List (Tree term)) → TableOf n table count (program-of ts) → Closed 0 (program-of ts) → All (λ t. OneAtMost (closures t)) ts → Good n (program-of ts)
+held-good ts h c o = one-good ts (omega (arith, h .counts, h .small)) (h .ranges) c o
 
 -- with the run of the threads in hand
 pub runs-to : {n : ℕ} {table : List ℕ} {count : ℕ} {work : List ℕ} {limit : ℕ} {v : Values} {t w : List ℕ} {e : End (List (Tree term))} (ts : List (Tree term)) → TableOf n table count (program-of ts) → Good n (program-of ts) → count ≤ holds-nodes work →
@@ -179,36 +107,11 @@ runs-to {n} {table} {work = work} {limit} {e = e} ts h g l i r =
 
 -- A reader may not always refuse: the text `()` is read under every limit, whatever the output holds.
 pub reader-must-read : {n : ℕ} {out : List ℕ} {v : Values} {o : List ℕ} → Reads n (text empty) out v o → 1 ≤ n → 1 ≤ holds-nodes out → v .refusal ≡ 0
-unfolding text raw-text raw nodes threads
-reader-must-read {n} {out} i l r =
-    let only-empty : (p : Tree program) → TextOf n (text empty) p → p ≡ empty = λ p t. text-injective p empty (t .is) in
-    ap (λ (v : Values). v .refusal) (
-    reads-once i (
-    read empty (
-      (λ h. omega (arith, text-length 1 empty (omega arith) tt)),
-      (
-        (λ f. f (list (encode raw-empty)) refl),
-        (
-          (λ f. f .1 .1 raw-empty refl),
-          (
-            (λ f. f .1 .1 empty (record { is = refl; ranges = tt })),
-            (
-              (λ k. k .1 .1 (rw (only-empty (k .0) (k .1 .0)) tt)),
-              (
-                (λ k. let e = only-empty (k .0) (k .1 .0) in omega (arith, rw e at (k .1 .1))),
-                (
-                  (λ k. k .1 .1 (rw (only-empty (k .0) (k .1 .0)) tt)),
-                  ((λ k. let e = only-empty (k .0) (k .1 .0) in omega (arith, rw e at (k .1 .1))), tt),
-                ),
-              ),
-            ),
-          ),
-        ),
-      ),
-    )
-    (record { is = refl; ranges = tt })
-    ) .0
-    )
+unfolding nodes
+reader-must-read {n} i l r =
+    let a = reads-exactly (reader-accepts n 0 0 l) .accepted-only refl in
+    let fits : (p : Tree program) → TextOf n (text empty) p → nodes p ≡ 1 = λ p t. ap nodes (text-injective p empty (t .is)) in
+    reads-exactly i .accepted (a .0, (a .1 .0, (a .1 .1 .0, (a .1 .1 .1 .0, (a .1 .1 .1 .1 .0, (a .1 .1 .1 .1 .1 .0, (a .1 .1 .1 .1 .1 .1 .0, ((λ k. omega (arith, k .1 .1, fits (k .0) (k .1 .0))), tt))))))))
 
 -- Nor may a step: `((n b0))` steps to `(x0)`.
 pub step-must-step : {n : ℕ} {table : List ℕ} {count : ℕ} {out : List ℕ} {v : Values} {o : List ℕ} → TableOf n table count (program-of (fresh (bound 0) ∷ [])) → 3 ≤ holds-nodes out → StepsInto n table count out v o →

@@ -8,14 +8,13 @@ use lib.ListN.{length, getD, replicate}
 use Rattle.calculus.specs.declared.Reason.the-variants.{Ended}
 use Rattle.calculus.specs.declared.Standing.{Standing}
 use Rattle.calculus.specs.Tree.{term, Tree, preorder, nodes, program-of}
-use Rattle.calculus.specs.Good.{InRange, Closed, Coherent, All, Good}
+use Rattle.calculus.specs.Good.{InRange, Closed, All, Good}
 use Rattle.calculus.specs.Step.{step, standing}
 use Rattle.calculus.specs.Run.{End, size, run, room-of}
 use Rattle.calculus.specs.Text.{text}
 use Rattle.calculus.specs.Answers.{standingCode, Values}
 use Rattle.calculus.specs.Calls.{front, Reads, TableOf, Writes, StepsInto, end-table, ran-values, RunsWith, thread-refusals, StandsAt, stands, not-stood}
 use Rattle.calculus.specs.Known.{Known, Outcome, ascii, found, expected, AllRight, starred}
-use Rattle.calculus.proofs.Alls.{all-each}
 use Rattle.calculus.proofs.Preorders.{threads-of-program}
 use Rattle.calculus.proofs.Refusals.{accepted-not-refused}
 use Rattle.calculus.proofs.Preservation.{run-good}
@@ -23,8 +22,9 @@ use Rattle.calculus.proofs.Ends.{starred-right}
 use Rattle.mespindro.specs.Limit.{limit}
 use Rattle.text.proofs.RoundTrip.{good-read-only, good-written-only}
 use Rattle.promises.specs.Calls.{RightCall, Each}
+use Rattle.promises.proofs.Worked.{front-table, good-stopped}
 use Rattle.promises.proofs.Heads.{stands-accepted, threads-there}
-use Rattle.promises.proofs.Excluded.{closures, OneAtMost, one-coherent, own-table, good-stopped, runs-to}
+use Rattle.promises.proofs.Excluded.{closures, OneAtMost, one-good, runs-to}
 
 -- a row's program fits the limit, is in range and closed, and has at most one allocated abstraction in a thread
 abbrev Checked : Known → Type 0
@@ -35,7 +35,7 @@ unfolding starred nodes program-of closures
 starred-checked = (omega arith, (omega arith, (omega arith, (omega arith, (omega arith, (omega arith, (omega arith, (omega arith, (omega arith, (omega arith, (omega arith, (omega arith, tt))))))))))))
 
 checked-good : (k : Known) → Checked k → Good limit (program-of (k .program))
-checked-good k c = record { small = c .0; ranges = c .1; closed = c .2; coherent = rw threads-of-program (all-each (λ t. OneAtMost (closures t)) Coherent (k .program) one-coherent (c .3)) }
+checked-good k c = one-good (k .program) (c .0) (c .1) (c .2) (c .3)
 
 -- how the thread behind these stands
 code-there : (before : List (Tree term)) (t : Tree term) (after : List (Tree term)) → getD (map standingCode (map standing (before ++ (t ∷ after)))) (length before) 0 ≡ standingCode (standing t)
@@ -85,7 +85,7 @@ module _ (k : Known) (e : found k ≡ expected k) (g : Good limit (program-of (k
   runs-right table work v t w l m h r =
       let a : room-of limit table work ≡ 2048 = omega arith in
       let z = runs-to (k .program) h g (omega (arith, g .small)) (ap (λ (room : ℕ). run room 10000 (k .program)) a ∙ is-run) r in
-      (z .0, z .1, rw (z .1) (own-table (replicate (length table - length (preorder (program-of (k .end)))) 0) end-good))
+      (z .0, z .1, rw (z .1) (front-table (replicate (length table - length (preorder (program-of (k .end)))) 0) end-good))
 
   single-right : (table out : List ℕ) (v : Values) (o : List ℕ) → TableOf limit table (size (k .end)) (program-of (k .end)) → StepsInto limit table (size (k .end)) out v o → (v .refusal ≡ 11) × (o ≡ out)
   single-right table out v o h r =
@@ -101,7 +101,7 @@ module _ (k : Known) (e : found k ≡ expected k) (g : Good limit (program-of (k
       code-there (o .before) t (o .after) in
       ap (λ (m : ℕ). record { refusal = 0; values = m ∷ [] }) (sym c ∙ ap (λ (ss : List Standing). getD (map standingCode ss) j 0) end-standings)
   stands-right table j l h (not-stood q i) =
-      absurd (accepted-not-refused (thread-refusals limit table (size (k .end)) j) q (stands-accepted j h (λ f. f end-good) (omega (arith, ap length (threads-of-program (k .end))))) i)
+      absurd (accepted-not-refused (thread-refusals limit table (size (k .end)) j) q (stands-accepted j h end-good (omega (arith, ap length (threads-of-program (k .end))))) i)
 
   -- every call gives what the row tells
   pub right : RightCall k

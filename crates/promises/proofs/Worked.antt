@@ -1,8 +1,8 @@
 -- Demand 2 over the calls: what every outcome that a contract allows has worked, for any node limit n.
-use mathlib.Core.Path.{_≡_, refl, ap}
+use mathlib.Core.Path.{_≡_, refl, ap, _∙_}
 use mathlib.Core.Logic.{inl, inr}
-use mathlib.Core.List.{List, _++_}
-use mathlib.Core.Option.{none}
+use mathlib.Core.List.{List, [], _∷_, _++_}
+use mathlib.Core.Option.{none, some}
 use Prim.Native.Nat.{ℕ, _*_, _-_, _≤_, _<_}
 use native.Mathlib.Omega.{arith}
 use lib.ListN.{length, drop, replicate, length-append}
@@ -24,13 +24,13 @@ use Rattle.calculus.proofs.Steps.{step-chosen, no-step-normal, normal-no-step}
 use Rattle.calculus.proofs.Runs.{program-run-is}
 use Rattle.calculus.proofs.Preservation.{step-good, run-good, run-reductions}
 use Rattle.calculus.proofs.Outcomes.{table-of-unique, steps-once, runs-once}
-use Rattle.text.proofs.RoundTrip.{accepted, good-written-only}
+use Rattle.text.proofs.RoundTrip.{accepted, good-read-only, good-written-only}
 use Rattle.promises.specs.Worked.{HasRead, HasStepped, HasRun}
 use Rattle.promises.proofs.Admitted.{number-positive, closed-stable, coherent-stable, good-table, table-good}
 
--- a table that begins with a good program's nodes holds that program
-front-table : {n : ℕ} (p : Tree program) (rest : List ℕ) → Good n p → TableOf n (preorder p ++ rest) (nodes p) p
-front-table p rest g = record {
+-- a good program's own numbers are a table that holds it, whatever stands behind them: what is said below is said of something
+pub front-table : {n : ℕ} {p : Tree program} (rest : List ℕ) → Good n p → TableOf n (preorder p ++ rest) (nodes p) p
+front-table {p = p} rest g = record {
   counts = refl;
   small = g .small;
   within = omega (arith, length-append (preorder p) rest, preorder-length p);
@@ -49,8 +49,17 @@ read-gives {n} {b} {out} (read p a t) e =
       closed = closed-stable 0 p (λ f. a .1 .1 .1 .1 .0 (p, (t, f)));
       coherent = coherent-stable (threads p) (λ f. a .1 .1 .1 .1 .1 .1 .0 (p, (t, f)));
     } in
-    record { program = p; good = good; is = t .is; fits = omega arith; values = refl; left = refl; back = front-table p (drop (length (preorder p)) out) good }
+    record { program = p; good = good; is = t .is; fits = omega arith; values = refl; left = refl; back = front-table (drop (length (preorder p)) out) good }
 read-gives (refused r g) e = absurd (omega (arith, number-positive r))
+
+-- reading is accepted exactly of the texts of good programs that fit the output
+pub reads-iff : {n : ℕ} {b out : List ℕ} → n ≤ 65536 →
+    let fits = (p : Tree program) × (Good n p × ((text p ≡ b) × (nodes p ≤ holds-nodes out))) in
+    ((v : Values) (o : List ℕ) → Reads n b out v o → v .refusal ≡ 0 → fits) × (fits → (v : Values) (o : List ℕ) → Reads n b out v o → v .refusal ≡ 0)
+reads-iff l = (
+  (λ v o h e. let r = read-gives h e in (r .program, (r .good, (r .is, r .fits)))),
+  (λ f v o h. ap (λ (x : Values). x .refusal) (good-read-only (f .1 .0) l (f .1 .1 .1) (rw (← f .1 .1 .0) at h) .0)),
+)
 
 module _ {n : ℕ} {table : List ℕ} {count : ℕ} where
   -- what an accepted step has stepped
@@ -71,7 +80,7 @@ module _ {n : ℕ} {table : List ℕ} {count : ℕ} where
         values = refl;
         left = refl;
         result-good = result-good;
-        back = front-table (program-of (s .result)) (drop (length (preorder (program-of (s .result)))) out) result-good;
+        back = front-table (drop (length (preorder (program-of (s .result)))) out) result-good;
       }
   step-gives (not-stepped r g) e = absurd (omega (arith, number-positive r))
 
@@ -91,13 +100,46 @@ module _ {n : ℕ} {table : List ℕ} {count : ℕ} where
           (p, (t, (good, no-step-normal (threads p) (all-threads (λ s t. Closed 0 t) (λ t q c. c) p (good .closed)) i)))
       go (inr (a, inr (b, inr (c, inr (d, inr (f, inr (i, h))))))) = absurd h
 
-  -- and of every such program
+  -- a step of the table is a step of the program in it
+  table-step : {p q : Tree program} {s : Step} → TableOf n table count p → StepsTo n table count q s → step (threads p) ≡ some s
+  table-step t k = ap (λ (x : Tree program). step (threads x)) (table-of-unique t (k .table-of)) ∙ k .steps
+
+  -- a good program in a table is stepped into an output with room for the result
+  pub good-steps : {out : List ℕ} {v : Values} {o : List ℕ} {p : Tree program} {s : Step} → TableOf n table count p → Good n p → step (threads p) ≡ some s → size (s .result) ≤ n → size (s .result) ≤ holds-nodes out → StepsInto n table count out v o →
+      (v ≡ accepted (size (s .result))) × (o ≡ front (preorder (program-of (s .result))) out)
+  good-steps {p = p} {s} t g e l r h =
+      let a = good-table t g in
+      let same : (q : Tree program) (x : Step) → StepsTo n table count q x → size (x .result) ≡ size (s .result) = λ q x k. let i = table-step t k in cc in
+      steps-once h (
+      stepped p s (
+        a .0,
+        (
+          a .1 .0,
+          (
+            (λ k. omega (arith, k .1 .1 .1 .1, same (k .0) (k .1 .0) (k .1 .1 .0))),
+            (
+              a .1 .1 .0,
+              (
+                (λ k. omega (arith, k .1 .1 .1, same (k .0) (k .1 .0) (k .1 .1 .0))),
+                ((λ k. impossible (cc (e, k .1 .1, ap (λ (x : Tree program). step (threads x)) (table-of-unique (k .1 .0) t)))), tt),
+              ),
+            ),
+          ),
+        ),
+      )
+      (record { table-of = t; steps = e })
+      )
+
+  -- and given 11 where it has no step
+  pub good-stopped : {out : List ℕ} {v : Values} {o : List ℕ} {p : Tree program} → TableOf n table count p → Good n p → step (threads p) ≡ none → StepsInto n table count out v o → (v ≡ record { refusal = 11; values = 0 ∷ [] }) × (o ≡ out)
+  good-stopped {p = p} t g e h =
+      let a = good-table t g in
+      let never : (q : Tree program) (s : Step) → StepsTo n table count q s → ⊥ = λ q s k. impossible (cc (e, table-step t k)) in
+      steps-once h (not-stepped Finished (inr (a .0, inr (a .1 .0, inr ((λ k. never (k .0) (k .1 .0) (k .1 .1 .0)), inr (a .1 .1 .0, inr ((λ k. never (k .0) (k .1 .0) (k .1 .1 .0)), inl ((p, (t, e)), refl))))))))
+
+  -- so of every good program in which every thread is a value or stuck
   pub finished-step : {out : List ℕ} {v : Values} {o : List ℕ} {p : Tree program} → StepsInto n table count out v o → TableOf n table count p → Good n p → All Normal (threads p) → v .refusal ≡ 11
-  finished-step {out} {p = p} h t g a =
-      let still : step (threads p) ≡ none = normal-no-step (threads p) a in
-      let never : (q : Tree program) (s : Step) → StepsTo n table count q s → ⊥ = λ q s k. impossible (cc (k .steps, ap (λ (x : Tree program). step (threads x)) (table-of-unique (k .table-of) t))) in
-      let accepts = good-table t g in
-      ap (λ (x : Values). x .refusal) (steps-once h (not-stepped Finished (inr (accepts .0, inr (accepts .1 .0, inr (λ k. never (k .0) (k .1 .0) (k .1 .1 .0), inr (accepts .1 .1 .0, inr (λ k. never (k .0) (k .1 .0) (k .1 .1 .0), inl ((p, (t, still)), refl)))))))) .0)
+  finished-step {p = p} h t g a = ap (λ (x : Values). x .refusal) (good-stopped t g (normal-no-step (threads p) a) h .0)
 
   -- what an accepted run has run
   pub run-gives : {work : List ℕ} {limit : ℕ} {v : Values} {t w : List ℕ} → RunsWith n table count work limit v t w → v .refusal ≡ 0 → HasRun n table count work limit v t w
@@ -117,7 +159,7 @@ module _ {n : ℕ} {table : List ℕ} {count : ℕ} where
         left = refl;
         cleared = refl;
         result-good = result-good;
-        back = front-table (program-of (end .last)) (replicate (length table - length (preorder (program-of (end .last)))) 0) result-good;
+        back = front-table (replicate (length table - length (preorder (program-of (end .last)))) 0) result-good;
       }
   run-gives (not-run r g) e = absurd (omega (arith, number-positive r))
 
