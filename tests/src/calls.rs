@@ -137,7 +137,7 @@ fn sizes_of_run(table: &[u16], count: usize) -> (Vec<usize>, bool) {
     };
     for _ in 0..MOST_STEPS {
         match step(&program) {
-            Step::To(next) if program_size(&next) <= NODES => program = next,
+            Step::To(_, next) if program_size(&next) <= NODES => program = next,
             Step::TooLarge => return (sizes, false),
             _ => return (sizes, true),
         }

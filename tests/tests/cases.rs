@@ -1,0 +1,355 @@
+//! The cases with known ends of tests/cases, through the library and through the evaluator.
+
+mod short;
+
+use mespindro_tests::binding::{self, Reason, Refusal, Standing, Stop};
+use mespindro_tests::calls::on_program;
+use mespindro_tests::compare::{Call, Tally};
+use mespindro_tests::evaluator::step::{step, Rule, Step};
+use mespindro_tests::evaluator::table::write_table;
+use mespindro_tests::evaluator::text::write_text;
+use mespindro_tests::evaluator::tree::{program_size, Program};
+use mespindro_tests::evaluator::{self, NODES, TEXT};
+use mespindro_tests::on_big_stack;
+use mespindro_tests::random::Random;
+
+/// A program with what is known of its run.
+struct Case {
+    name: String,
+    program: Program,
+    limit: u32,
+    room: usize,
+    end: Option<Program>,
+    nodes: Option<usize>,
+    reason: Reason,
+    steps: u32,
+    standings: Option<Vec<Standing>>,
+    rules: Option<Vec<Rule>>,
+}
+
+/// The cases of a file: paragraphs of a name and lines of a word and its content.
+fn cases(file: &str) -> Vec<Case> {
+    let lines = file.lines().filter(|line| !line.starts_with(';'));
+    let plain = lines.collect::<Vec<_>>().join("\n");
+    let paragraphs = plain.split("\n\n").map(str::trim);
+    paragraphs.filter(|p| !p.is_empty()).map(case).collect()
+}
+
+fn case(paragraph: &str) -> Case {
+    let (name, lines) = paragraph.split_once('\n').expect("a name");
+    let line = |word: &str| {
+        let mut lines = lines.lines().filter_map(|line| line.split_once(' '));
+        lines.find(|(w, _)| *w == word).map(|(_, content)| content)
+    };
+    let number = |word: &str| line(word).map(|n| n.parse::<usize>().expect("a number"));
+    let program = short::program(line("program").expect("a program"));
+    let end = line("end").map(|end| match end {
+        "itself" => program.clone(),
+        other => short::program(other),
+    });
+    let (reason, steps) = stop(line("stop").expect("a stop"));
+    Case {
+        name: name.to_string(),
+        program,
+        limit: number("limit").unwrap_or(10_000) as u32,
+        room: number("room").unwrap_or(NODES),
+        end,
+        nodes: number("nodes"),
+        reason,
+        steps,
+        standings: line("stands").map(|s| words(s, standing)),
+        rules: line("rules").map(|r| words(r, rule)),
+    }
+}
+
+fn stop(content: &str) -> (Reason, u32) {
+    let (reason, steps) = content.split_once(' ').expect("a reason and steps");
+    let reason = match reason {
+        "ended" => Reason::Ended,
+        "steps" => Reason::Steps,
+        "room" => Reason::Room,
+        other => panic!("no reason is {other}"),
+    };
+    (reason, steps.parse().expect("steps"))
+}
+
+/// The words of a line; `-` is none.
+fn words<T>(content: &str, word: fn(&str) -> T) -> Vec<T> {
+    let words = content.split(' ').filter(|w| *w != "-");
+    words.map(word).collect()
+}
+
+fn standing(word: &str) -> Standing {
+    match word {
+        "answer" => Standing::Answer,
+        "stuck" => Standing::Stuck,
+        "open" => Standing::Open,
+        other => panic!("no standing is {other}"),
+    }
+}
+
+fn rule(word: &str) -> Rule {
+    match word {
+        "alloc" => Rule::Alloc,
+        "beta" => Rule::Beta,
+        "fresh" => Rule::Fresh,
+        "guard" => Rule::Guard,
+        "unif" => Rule::Unif,
+        "fail" => Rule::Fail,
+        other => panic!("no rule is {other}"),
+    }
+}
+
+/// Reads the program's text and runs it by the library, in tables of the case's room and in one of them larger.
+fn by_library(case: &Case) {
+    let name = &case.name;
+    let exact = 2 * case.room;
+    for (table_length, work_length) in [(exact, exact), (exact, 5000), (5000, exact + 1)] {
+        let mut table = vec![7; table_length];
+        let count = binding::read(&write_text(&case.program), &mut table);
+        assert_eq!(count, Ok(program_size(&case.program)), "{name}");
+        let count = count.unwrap();
+        assert_eq!(table[..2 * count], write_table(&case.program), "{name}");
+        let mut work = vec![7; work_length];
+        let got = binding::run(&mut table, count, &mut work, case.limit);
+        let stop = got.unwrap_or_else(|refusal| panic!("{name}: {refusal:?}"));
+        check_stop(case, &stop, &table);
+    }
+}
+
+fn check_stop(case: &Case, stop: &Stop, table: &[u16]) {
+    let name = &case.name;
+    assert_eq!(
+        (stop.reason, stop.steps),
+        (case.reason, case.steps),
+        "{name}"
+    );
+    if let Some(end) = &case.end {
+        assert_eq!(table[..2 * stop.nodes], write_table(end), "{name}");
+    }
+    if let Some(nodes) = case.nodes {
+        assert_eq!(stop.nodes, nodes, "{name}");
+    }
+    if let Some(standings) = &case.standings {
+        for (k, standing) in standings.iter().enumerate() {
+            assert_eq!(
+                binding::standing(table, stop.nodes, k),
+                Ok(*standing),
+                "{name}"
+            );
+        }
+        let past = binding::standing(table, stop.nodes, standings.len());
+        assert_eq!(past, Err(Refusal::NoThread), "{name}");
+    }
+    // a single step of an ended program is refused, whatever the output
+    if stop.reason == Reason::Ended {
+        let step = binding::step(table, stop.nodes, &mut []);
+        assert_eq!(step, Err(Refusal::Finished), "{name}");
+    }
+}
+
+/// Runs the program by the evaluator and looks at each step's rule.
+fn by_evaluator(case: &Case) {
+    let name = &case.name;
+    let run = evaluator::run_program(case.program.clone(), case.room, case.limit);
+    let (reason, steps, end) = run.expect("the evaluator can tell");
+    assert_eq!((reason, steps), (case.reason, case.steps), "{name}");
+    if let Some(expected) = &case.end {
+        assert_eq!(&end, expected, "{name}");
+    }
+    if let Some(nodes) = case.nodes {
+        assert_eq!(program_size(&end), nodes, "{name}");
+    }
+    if let Some(standings) = &case.standings {
+        let got: Vec<Standing> = end.iter().map(evaluator::step::standing).collect();
+        assert_eq!(&got, standings, "{name}");
+    }
+    if let Some(rules) = &case.rules {
+        assert_eq!(&rules_taken(&case.program, steps), rules, "{name}");
+    }
+}
+
+fn rules_taken(program: &Program, steps: u32) -> Vec<Rule> {
+    let mut program = program.clone();
+    let mut rules = Vec::new();
+    for _ in 0..steps {
+        let Step::To(rule, next) = step(&program) else {
+            panic!("the run has made this step");
+        };
+        rules.push(rule);
+        program = next;
+    }
+    rules
+}
+
+fn check_file(name: &str, file: &str, number: usize) {
+    let cases = cases(file);
+    assert_eq!(cases.len(), number, "cases in {name}");
+    let mut tally = Tally::default();
+    let mut random = Random::new(5);
+    on_big_stack(|| {
+        for case in &cases {
+            by_library(case);
+            by_evaluator(case);
+            for call in on_program(&case.program, &mut random) {
+                tally
+                    .compare(&call)
+                    .unwrap_or_else(|difference| panic!("{}: {difference}\n{call:?}", case.name));
+            }
+        }
+    });
+    println!("{name}: {number} cases, {tally}");
+}
+
+#[test]
+fn of_document_01() {
+    check_file("document-01.txt", include_str!("cases/document-01.txt"), 16);
+}
+
+#[test]
+fn runs() {
+    check_file("runs.txt", include_str!("cases/runs.txt"), 54);
+}
+
+#[test]
+fn scale() {
+    check_file("scale.txt", include_str!("cases/scale.txt"), 18);
+}
+
+#[test]
+fn of_document_003() {
+    check_file(
+        "document-003.txt",
+        include_str!("cases/document-003.txt"),
+        15,
+    );
+}
+
+/// The lines of a file of one case a line: what stands before the blank and `;`.
+fn lines(file: &str) -> impl Iterator<Item = &str> {
+    let lines = file.lines().filter(|line| !line.starts_with(';'));
+    lines.map(|line| line.rsplit_once(" ;").expect("a reason").0)
+}
+
+fn refusal(number: &str) -> Refusal {
+    let number = number.parse().expect("a refusal's number");
+    Refusal::of_number(number).expect("a refusal")
+}
+
+#[test]
+fn texts() {
+    let mut number = 0;
+    for line in lines(include_str!("cases/texts.txt")) {
+        let mut words = line.splitn(4, ' ');
+        let mut word = || words.next().unwrap_or("");
+        let (name, out, outcome) = (word(), word(), word());
+        let text = word().replace("\\n", "\n").into_bytes();
+        let expected = match outcome.strip_prefix("read:") {
+            Some(nodes) => Ok(nodes.parse::<usize>().expect("nodes")),
+            None => Err(refusal(outcome)),
+        };
+        let out = out.parse().expect("a length");
+        assert_eq!(binding::read(&text, &mut vec![7; out]), expected, "{name}");
+        let call = Call::Read { text, out };
+        Tally::default().compare(&call).expect(name);
+        number += 1;
+    }
+    println!("texts.txt: {number} cases");
+}
+
+#[test]
+fn tables() {
+    let mut number = 0;
+    for line in lines(include_str!("cases/tables.txt")) {
+        let mut words = line.split(' ');
+        let name = words.next().expect("a name");
+        let count = words.next().expect("a count").parse().expect("a count");
+        let outcome = words.next().expect("an outcome");
+        let table: Vec<u16> = words.map(|n| n.parse().expect("a number")).collect();
+        every_call_answers(name, &table, count, outcome);
+        number += 1;
+    }
+    let many = vec![0; 2 * 2049];
+    every_call_answers("N21", &many, 2049, "1");
+    println!("tables.txt: {} cases", number + 1);
+}
+
+/// Every call on the table refuses with the number, or none refuses it where the outcome is `-`.
+fn every_call_answers(name: &str, table: &[u16], count: usize, outcome: &str) {
+    let (mut run_table, mut work) = (table.to_vec(), vec![7; 4096]);
+    let answers = [
+        binding::write(table, count, &mut [7; TEXT]).err(),
+        binding::step(table, count, &mut [7; 4096]).err(),
+        binding::run(&mut run_table, count, &mut work, 9).err(),
+        binding::standing(table, count, 0).err(),
+    ];
+    for answer in answers {
+        let number = answer.map_or(0, Refusal::number);
+        match outcome {
+            "-" => assert!(![1, 6, 8].contains(&number), "{name}: refused {number}"),
+            _ => assert_eq!(answer, Some(refusal(outcome)), "{name}"),
+        }
+    }
+}
+
+/// What the program on standard input does with the calls; its own bytes are tested where it is built.
+fn report(input: &[u8]) -> Vec<u8> {
+    let (mut table, mut work) = (vec![0; 2 * NODES], vec![0; 2 * NODES]);
+    let run = binding::read(input, &mut table)
+        .and_then(|count| binding::run(&mut table, count, &mut work, 10_000));
+    let stop = match run {
+        Ok(stop) => stop,
+        Err(refusal) => {
+            let number = refusal.number().to_string();
+            return format!("(7:refused{}:{number})", number.len()).into_bytes();
+        }
+    };
+    let reason = match stop.reason {
+        Reason::Ended => "5:ended",
+        Reason::Steps => "5:steps",
+        Reason::Room => "4:room",
+    };
+    let steps = stop.steps.to_string();
+    let mut text = vec![0; TEXT];
+    let length = binding::write(&table, stop.nodes, &mut text).expect("an end is written");
+    let head = format!("({reason}{}:{steps}", steps.len());
+    [head.as_bytes(), &text[..length], b")"].concat()
+}
+
+#[test]
+fn program_on_standard_input() {
+    let endless = short::program("((a (l ((a b0 b0))) (l ((a b0 b0)))))");
+    let endless = String::from_utf8(write_text(&endless)).unwrap();
+    let bytes = "x".repeat(24_577);
+    let cases = [
+        ("()", "(5:ended1:0())"),
+        ("()\n", "(7:refused1:3)"),
+        ("", "(7:refused1:3)"),
+        (&bytes, "(7:refused1:2)"),
+        ("((1:v1:0))", "(7:refused1:6)"),
+        (
+            "((1:n(1:g(1:u(1:v1:0)(1:c1:1))(1:v1:0))))",
+            "(5:ended1:3((1:c1:1)))",
+        ),
+        (
+            &endless,
+            "(5:steps5:10000((1:a(1:L1:1((1:a(1:v1:0)(1:v1:0))))(1:L1:1((1:a(1:v1:0)(1:v1:0)))))))",
+        ),
+        (
+            "((1:a(1:x4:2047)(1:n(1:v1:0))))",
+            "(5:ended1:1((1:a(1:x4:2047)(1:x1:0))))",
+        ),
+    ];
+    on_big_stack(|| {
+        for (input, output) in cases {
+            let got = String::from_utf8(report(input.as_bytes())).unwrap();
+            assert_eq!(got, output, "{input}");
+        }
+        let rule = "(l ((n (g (u (a c1 b0) b1) (a b0 b1)))))";
+        let piling = short::program(&format!("((a {rule} (a c1 {rule})))"));
+        let got = report(&write_text(&piling));
+        assert!(got.starts_with(b"(4:room4:3017((1:g(1:c1:0)(1:g(1:c1:0)"));
+        assert_eq!(got.len(), 13_249);
+    });
+    println!("standard input: {} cases", cases.len() + 1);
+}
