@@ -1,0 +1,476 @@
+//! The benchmark: the library against the independent evaluator and against the floor of copying the table once a step.
+//!
+//! `bench FOLDER` writes FOLDER/SPEED.md's table between its two marks and FOLDER/speed.svg; without a folder it prints the table. Both sides
+//! are release builds in one process on the same inputs; before each call the table is filled anew and the work table cleared, outside the
+//! time. Each time is the least of several rounds. tools/bench builds and runs it.
+
+use mespindro_tests::binding;
+use mespindro_tests::evaluator::table::{read_table, write_table};
+use mespindro_tests::evaluator::text::read_text;
+use mespindro_tests::evaluator::tree::Program;
+use mespindro_tests::evaluator::{self, NODES, TEXT};
+use mespindro_tests::on_big_stack;
+use std::fmt::Write;
+use std::hint::black_box;
+use std::path::Path;
+use std::process::Command;
+use std::time::{Duration, Instant};
+
+/// A run that is measured.
+struct Case {
+    name: &'static str,
+    table: Vec<u16>,
+    most: u32,
+}
+
+/// What is found of one case: times of the whole call.
+struct Row {
+    name: String,
+    nodes: usize,
+    steps: u32,
+    library: Duration,
+    evaluator: Duration,
+    floor: Duration,
+}
+
+fn main() {
+    let folder = std::env::args().nth(1);
+    let rows = on_big_stack(measure_all);
+    let prolog = prolog_times();
+    let text = report(&rows, &prolog);
+    match folder {
+        None => print!("{text}"),
+        Some(folder) => store(Path::new(&folder), &text, &chart(&rows)),
+    }
+}
+
+fn measure_all() -> Vec<Row> {
+    let mut rows: Vec<Row> = cases().iter().map(measure).collect();
+    rows.push(reading());
+    rows.push(writing());
+    rows
+}
+
+// ---- The inputs.
+
+fn cases() -> Vec<Case> {
+    let case = |name, table, most| Case { name, table, most };
+    let mut cases = vec![
+        case(
+            "two equal structures of 1,000 nodes unified",
+            equal_structures(),
+            1,
+        ),
+        case(
+            "a structure of 1,000 nodes against one of variables",
+            variable_structure(),
+            1,
+        ),
+        case("a doubling unifier, 11 levels", doubling(11), 1),
+        case(
+            "340 alternatives, each with a variable of its own",
+            alternatives(340),
+            10_000,
+        ),
+        case("2,045 nested fresh variables", nested_fresh(2045), 10_000),
+        case(
+            "1,022 guards, nested on the right",
+            nested_guards(1022),
+            10_000,
+        ),
+        case(
+            "endless beta behind a structure, a full table",
+            endless(true),
+            10_000,
+        ),
+        case(
+            "endless beta before a structure, a full table",
+            endless(false),
+            10_000,
+        ),
+        case("endless beta, 15 nodes", endless_small(), 10_000),
+    ];
+    for (name, file) in [
+        ("two tenants (rules/two-tenants)", "two-tenants"),
+        ("48 ports (rules/leaf-48)", "leaf-48"),
+    ] {
+        if let Some(table) = rules(file) {
+            cases.push(case(name, table, 10_000));
+        }
+    }
+    cases
+}
+
+/// A program of one thread.
+fn one_thread(nodes: &[(u16, u16)]) -> Vec<u16> {
+    let mut table = vec![1, 0];
+    for &(kind, number) in nodes {
+        table.extend([kind, number]);
+    }
+    table.extend([0, 0]);
+    table
+}
+
+/// c1 applied to k elements.
+fn structure(k: u16, element: impl Fn(u16) -> (u16, u16)) -> Vec<(u16, u16)> {
+    let mut nodes = vec![(7, 0); k as usize];
+    nodes.push((4, 1));
+    nodes.extend((0..k).map(element));
+    nodes
+}
+
+fn goal(left: Vec<(u16, u16)>, right: Vec<(u16, u16)>) -> Vec<(u16, u16)> {
+    let mut nodes = vec![(10, 0)];
+    nodes.extend(left);
+    nodes.extend(right);
+    nodes
+}
+
+fn equal_structures() -> Vec<u16> {
+    one_thread(&goal(
+        structure(499, |_| (4, 2)),
+        structure(499, |_| (4, 2)),
+    ))
+}
+
+fn variable_structure() -> Vec<u16> {
+    one_thread(&goal(
+        structure(499, |_| (4, 2)),
+        structure(499, |i| (3, i)),
+    ))
+}
+
+/// cases.md's D(n): the variable n has 2^(n+2) - 3 nodes.
+fn doubling(n: u16) -> Vec<u16> {
+    let mut right = vec![(7, 0); n as usize];
+    right.push((4, 9));
+    for i in 0..n {
+        right.extend([(7, 0), (7, 0), (4, 8), (3, i), (3, i)]);
+    }
+    let mut left = vec![(7, 0); n as usize];
+    left.push((4, 9));
+    left.extend((1..=n).map(|i| (3, i)));
+    one_thread(&goal(left, right))
+}
+
+/// `(g (u x0 cI) x0)` for each I.
+fn alternatives(n: u16) -> Vec<u16> {
+    let mut table = Vec::new();
+    for i in 0..n {
+        table.extend([1, 0, 9, 0, 10, 0, 3, 0, 4, i, 3, 0]);
+    }
+    table.extend([0, 0]);
+    table
+}
+
+fn nested_fresh(n: usize) -> Vec<u16> {
+    let mut nodes = vec![(8, 0); n];
+    nodes.push((4, 1));
+    one_thread(&nodes)
+}
+
+fn nested_guards(n: usize) -> Vec<u16> {
+    let mut nodes = [(9, 0), (4, 2)].repeat(n);
+    nodes.push((4, 1));
+    one_thread(&nodes)
+}
+
+/// `(a W W)` with W = `(L 0 ((a b0 b0)))`: steps to itself.
+fn self_application() -> Vec<(u16, u16)> {
+    let w = [(6, 0), (1, 0), (7, 0), (2, 0), (2, 0), (0, 0)];
+    let mut nodes = vec![(7, 0)];
+    nodes.extend(w);
+    nodes.extend(w);
+    nodes
+}
+
+fn endless_small() -> Vec<u16> {
+    one_thread(&self_application())
+}
+
+/// The same beside a structure that fills the table.
+fn endless(behind: bool) -> Vec<u16> {
+    let big = structure(1014, |_| (4, 2));
+    let mut nodes = vec![(7, 0)];
+    if behind {
+        nodes.extend(big);
+        nodes.extend(self_application());
+    } else {
+        nodes.extend([(7, 0), (4, 9)]);
+        nodes.extend(self_application());
+        nodes.extend(structure(1013, |_| (4, 2)));
+    }
+    one_thread(&nodes)
+}
+
+fn rules(name: &str) -> Option<Vec<u16>> {
+    let file = Path::new(env!("CARGO_MANIFEST_DIR"))
+        .join("../rules")
+        .join(name)
+        .with_extension("csexp");
+    let text = std::fs::read(file).ok()?;
+    Some(write_table(&read_text(&text).expect("a rule set is read")))
+}
+
+// ---- The times.
+
+/// The least time of a call, over rounds for about a fifth of a second.
+fn least(mut prepare: impl FnMut(), mut call: impl FnMut(&mut dyn FnMut())) -> Duration {
+    let begin = Instant::now();
+    let mut best = Duration::MAX;
+    let mut rounds = 0;
+    while rounds < 5 || begin.elapsed() < Duration::from_millis(200) {
+        prepare();
+        let mut took = Duration::ZERO;
+        let start = Instant::now();
+        call(&mut || took = start.elapsed());
+        best = best.min(took);
+        rounds += 1;
+    }
+    best
+}
+
+fn measure(case: &Case) -> Row {
+    let nodes = case.table.len() / 2;
+    let (library, steps) = library_run(case);
+    let evaluator = evaluator_run(case);
+    Row {
+        name: case.name.to_string(),
+        nodes,
+        steps,
+        library,
+        evaluator,
+        floor: copy_floor(nodes) * steps.max(1),
+    }
+}
+
+fn library_run(case: &Case) -> (Duration, u32) {
+    let table = std::cell::RefCell::new(vec![0u16; 2 * NODES]);
+    let work = std::cell::RefCell::new(vec![0u16; 2 * NODES]);
+    let mut steps = 0;
+    let count = case.table.len() / 2;
+    let time = least(
+        || {
+            let mut table = table.borrow_mut();
+            table.fill(0);
+            table[..case.table.len()].copy_from_slice(&case.table);
+            work.borrow_mut().fill(0);
+        },
+        |done| {
+            let stop = binding::run(
+                &mut table.borrow_mut(),
+                count,
+                &mut work.borrow_mut(),
+                case.most,
+            );
+            done();
+            steps = stop.expect("the case runs").steps;
+        },
+    );
+    (time, steps)
+}
+
+/// The evaluator's tree is built before; only its steps are timed.
+fn evaluator_run(case: &Case) -> Duration {
+    let program = read_table(&case.table, case.table.len() / 2).expect("the case is a program");
+    let copy = std::cell::RefCell::new(None::<Program>);
+    least(
+        || *copy.borrow_mut() = Some(program.clone()),
+        |done| {
+            let program = copy.borrow_mut().take().expect("a copy");
+            let end = evaluator::run_program(program, NODES, case.most);
+            done();
+            black_box(end.expect("small enough to copy"));
+        },
+    )
+}
+
+/// Copying so many nodes once: the least of many rounds of 1,000 copies.
+fn copy_floor(nodes: usize) -> Duration {
+    let from = vec![1u16; 2 * nodes];
+    let mut to = vec![0u16; 2 * nodes];
+    let thousand = least(
+        || {},
+        |done| {
+            for _ in 0..1000 {
+                to.copy_from_slice(black_box(&from));
+                black_box(&mut to);
+            }
+            done();
+        },
+    );
+    thousand / 1000
+}
+
+fn long_program() -> (Vec<u8>, Vec<u16>) {
+    let table = one_thread(&structure(1022, |i| (4, 60_000 + i)));
+    let text =
+        evaluator::text::write_text(&read_table(&table, table.len() / 2).expect("a program"));
+    (text, table)
+}
+
+fn reading() -> Row {
+    let (text, table) = long_program();
+    let mut out = vec![0u16; 2 * NODES];
+    let library = least(
+        || {},
+        |done| {
+            let read = binding::read(&text, &mut out);
+            done();
+            read.expect("the text is read");
+        },
+    );
+    let evaluator = least(
+        || {},
+        |done| {
+            let read = evaluator::read(&text, 2 * NODES);
+            done();
+            black_box(read.expect("the text is read"));
+        },
+    );
+    row("reading a text", &text, &table, library, evaluator)
+}
+
+fn writing() -> Row {
+    let (text, table) = long_program();
+    let mut out = vec![0u8; TEXT];
+    let library = least(
+        || {},
+        |done| {
+            let written = binding::write(&table, table.len() / 2, &mut out);
+            done();
+            written.expect("the table is written");
+        },
+    );
+    let evaluator = least(
+        || {},
+        |done| {
+            let written = evaluator::write(&table, table.len() / 2, TEXT);
+            done();
+            black_box(written.expect("the table is written"));
+        },
+    );
+    row("writing a text", &text, &table, library, evaluator)
+}
+
+fn row(what: &str, text: &[u8], table: &[u16], library: Duration, evaluator: Duration) -> Row {
+    Row {
+        name: format!("{what} of {} bytes", thousands(text.len())),
+        nodes: table.len() / 2,
+        steps: 0,
+        library,
+        evaluator,
+        floor: copy_floor(table.len() / 2),
+    }
+}
+
+/// SWI-Prolog's time for the two structures, in microseconds; none where it is not installed.
+fn prolog_times() -> Option<(f64, f64)> {
+    let file = Path::new(env!("CARGO_MANIFEST_DIR")).join("bench/unify.pl");
+    let output = Command::new("swipl")
+        .args(["-q", "-g", "main", "-t", "halt"])
+        .arg(file)
+        .output()
+        .ok()?;
+    let text = String::from_utf8(output.stdout).ok()?;
+    let mut numbers = text.split_whitespace().map(|n| n.parse::<f64>());
+    Some((numbers.next()?.ok()?, numbers.next()?.ok()?))
+}
+
+// ---- The report.
+
+fn thousands(n: usize) -> String {
+    if n < 1000 {
+        n.to_string()
+    } else {
+        format!("{},{:03}", n / 1000, n % 1000)
+    }
+}
+
+fn time(d: Duration) -> String {
+    let us = d.as_secs_f64() * 1e6;
+    if us < 1000.0 {
+        format!("{us:.1} µs")
+    } else {
+        format!("{:.2} ms", us / 1000.0)
+    }
+}
+
+fn ratio(a: Duration, b: Duration) -> f64 {
+    a.as_secs_f64() / b.as_secs_f64()
+}
+
+/// The library's own time of a unification: the run of one step without what a run of no step takes but for the unification itself.
+fn report(rows: &[Row], prolog: &Option<(f64, f64)>) -> String {
+    let mut out = String::new();
+    let machine = std::env::consts::ARCH;
+    writeln!(out, "Measured on {machine}, one run of `tools/bench`.\n").unwrap();
+    writeln!(
+        out,
+        "| input | nodes | steps | library | evaluator | times faster | against copying |"
+    )
+    .unwrap();
+    writeln!(out, "|---|---|---|---|---|---|---|").unwrap();
+    for row in rows {
+        writeln!(
+            out,
+            "| {} | {} | {} | {} | {} | {:.1} | {:.0} |",
+            row.name,
+            thousands(row.nodes),
+            thousands(row.steps as usize),
+            time(row.library),
+            time(row.evaluator),
+            ratio(row.evaluator, row.library),
+            ratio(row.library, row.floor),
+        )
+        .unwrap();
+    }
+    if let Some((equal, variables)) = prolog {
+        writeln!(
+            out,
+            "\nSWI-Prolog, `unify_with_occurs_check` on the same two structures: equal {equal:.1} µs, against variables {variables:.1} µs."
+        )
+        .unwrap();
+    }
+    out
+}
+
+/// Bars of how many times faster the library is, on a scale of powers of ten.
+fn chart(rows: &[Row]) -> String {
+    let (line, left, width) = (24, 380, 420.0);
+    let height = line * rows.len() + 50;
+    let most = rows
+        .iter()
+        .map(|r| ratio(r.evaluator, r.library))
+        .fold(10.0, f64::max)
+        .log10()
+        .ceil();
+    let mut out = format!(
+        "<svg xmlns=\"http://www.w3.org/2000/svg\" width=\"880\" height=\"{height}\" font-family=\"sans-serif\" font-size=\"12\">\n<rect width=\"880\" height=\"{height}\" fill=\"white\"/>\n<text x=\"10\" y=\"18\" font-weight=\"bold\">Times faster than the independent Rust evaluator (scale of powers of ten)</text>\n"
+    );
+    for power in 0..=most as u32 {
+        let x = left as f64 + width * power as f64 / most;
+        writeln!(out, "<line x1=\"{x:.0}\" y1=\"28\" x2=\"{x:.0}\" y2=\"{}\" stroke=\"#ccc\"/>\n<text x=\"{x:.0}\" y=\"{}\" text-anchor=\"middle\" fill=\"#666\">{}</text>", height - 20, height - 6, 10u64.pow(power)).unwrap();
+    }
+    for (i, row) in rows.iter().enumerate() {
+        let faster = ratio(row.evaluator, row.library);
+        let bar = (width * faster.log10() / most).max(1.0);
+        let y = 34 + line * i;
+        writeln!(out, "<text x=\"{}\" y=\"{}\" text-anchor=\"end\">{}</text>\n<rect x=\"{left}\" y=\"{y}\" width=\"{bar:.0}\" height=\"16\" fill=\"#3a6ea5\"/>\n<text x=\"{:.0}\" y=\"{}\">{faster:.1}</text>", left - 8, y + 13, row.name, left as f64 + bar + 5.0, y + 13).unwrap();
+    }
+    out.push_str("</svg>\n");
+    out
+}
+
+const BEGIN: &str = "<!-- the table of tools/bench begins -->\n";
+const END: &str = "<!-- the table of tools/bench ends -->\n";
+
+fn store(folder: &Path, text: &str, chart: &str) {
+    let file = folder.join("SPEED.md");
+    let old = std::fs::read_to_string(&file).expect("docs/SPEED.md is there");
+    let begin = old.find(BEGIN).expect("the first mark") + BEGIN.len();
+    let end = old.find(END).expect("the second mark");
+    std::fs::write(&file, format!("{}{}{}", &old[..begin], text, &old[end..]))
+        .expect("SPEED.md is written");
+    std::fs::write(folder.join("speed.svg"), chart).expect("speed.svg is written");
+}
