@@ -79,7 +79,8 @@ OneAtMost [] = Unit {0}
 OneAtMost (c ∷ []) = Closed 1 (c .1)
 OneAtMost (c ∷ d ∷ cs) = ⊥
 
-pub one-coherent : (t : Tree term) → OneAtMost (closures t) → Coherent t
+-- a thread with none is coherent, and one with one whose body has no index beyond its own binder
+one-coherent : (t : Tree term) → OneAtMost (closures t) → Coherent t
 one-coherent t h = go (closures t) h (λ l q. holds-among l q t)
   where
     go : (cs : List (ℕ × Tree program)) → OneAtMost cs → ((l : ℕ) (q : Tree program) → Holds l q t → Among l q cs) → Coherent t
