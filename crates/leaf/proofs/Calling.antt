@@ -1,17 +1,17 @@
 -- What the read and the run leave, and the report of both: what is read is run, and its end is written.
 use mathlib.Core.Path.{_≡_, refl, sym, ap, _∙_}
 use mathlib.Core.List.{List, [], _∷_}
-use Prim.Native.Nat.{ℕ, _+_, _*_, _≤_, _<_}
+use Prim.Native.Nat.{ℕ, _*_, _≤_}
 use native.Mathlib.Omega.{arith}
 use lib.ListN.{length, getD, drop, replicate, length-append, length-replicate}
 use Rattle.calculus.specs.declared.Reason.{Reason}
 use Rattle.calculus.specs.declared.Reason.the-variants.{Ended, Steps, Room}
 use Rattle.calculus.specs.declared.Refusal.{Refusal}
 use Rattle.calculus.specs.Tree.{term, program, Tree, nodes, threads, program-of}
-use Rattle.calculus.specs.Run.{End, size, run, room-of}
+use Rattle.calculus.specs.Run.{End, run, room-of}
 use Rattle.calculus.specs.Answers.{number, reasonCode, Values}
-use Rattle.calculus.specs.Calls.{front, Reads, TableOf, ran-values, RunsWith}
-use Rattle.calculus.specs.Report.{report, refusal-report, Reports, reported, refused}
+use Rattle.calculus.specs.Calls.{Reads, TableOf, ran-values, RunsWith}
+use Rattle.calculus.specs.Report.{report, refusal-report, reported, refused}
 use Rattle.calculus.proofs.Runs.{program-run-only}
 use Rattle.calculus.proofs.Outcomes.{table-of-unique}
 use Rattle.text.specs.Writer.{numeral, Wrote}
@@ -44,10 +44,10 @@ code-reason Room = refl
 abbrev pub stopped : Reason → ℕ → ℕ → Values
 stopped r m k = record { refusal = 0; values = reasonCode r ∷ m ∷ k ∷ [] }
 
--- The run of the program in the table, in a work table as long.
-module _ {table : List ℕ} {count : ℕ} {work : List ℕ} {v : Values} {t w : List ℕ} (h : Loaded limit table count) (long : length work ≡ 2 * limit) (c : RunsWith limit table count work most v t w) where
+-- The run of the program in the table, in a work table as long, for so many steps as are allowed.
+module _ {table : List ℕ} {count : ℕ} {work : List ℕ} {allowed : ℕ} {v : Values} {t w : List ℕ} (h : Loaded limit table count) (long : length work ≡ 2 * limit) (c : RunsWith limit table count work allowed v t w) where
   abbrev loaded-end : End (List (Tree term))
-  loaded-end = run limit most (threads (h .holds .program-there))
+  loaded-end = run limit allowed (threads (h .holds .program-there))
 
   room-is : room-of limit table work ≡ limit
   room-is = omega arith
@@ -55,7 +55,7 @@ module _ {table : List ℕ} {count : ℕ} {work : List ℕ} {v : Values} {t w : 
   run-values : v ≡ ran-values loaded-end
   run-values = let g = h .holds in rw room-is at (good-runs (g .table-of) (g .good) (omega (arith, g .table-of .small)) c .0)
 
-  has-run : HasRun limit table count work most v t w
+  has-run : HasRun limit table count work allowed v t w
   has-run = run-gives c (ap (λ (x : Values). x .refusal) run-values)
 
   end-is : has-run .end ≡ loaded-end
@@ -73,7 +73,7 @@ module _ {table : List ℕ} {count : ℕ} {work : List ℕ} {v : Values} {t w : 
     reason-is = sym (code-reason r) ∙ ap reason-of (value 0) ∙ code-reason (has-run .end .reason)
 
     -- the steps are as few as the limit says
-    pub run-few : k ≤ most
+    pub run-few : k ≤ allowed
     run-few = omega (arith, value 2, has-run .is-run .within)
 
     end-there : TableOf limit t m (program-of (has-run .end .last))
@@ -87,7 +87,7 @@ module _ {table : List ℕ} {count : ℕ} {work : List ℕ} {v : Values} {t w : 
     end-told = rw (reason-is, value 2)
 
     -- its report is that of the run
-    pub run-written : {out after : List ℕ} {next : ℕ} → EndWritten limit r k t m out after next → RunWritten limit most table count out after next
+    pub run-written : {out after : List ℕ} {next : ℕ} → EndWritten limit r k t m out after next → RunWritten limit allowed table count out after next
     run-written e = record {
       fits = e .fits;
       wrote = λ q s. rw (table-of-unique s (h .holds .table-of), ← end-is, ← end-told) (e .wrote (has-run .end .last) end-there);

@@ -3,3 +3,4 @@ pub mod Stores
 pub mod Shapes
 pub mod Reporting
 pub mod Calling
+pub mod Once

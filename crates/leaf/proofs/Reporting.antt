@@ -1,12 +1,11 @@
 -- The report is written piece by piece.
 use mathlib.Core.Path.{_≡_, sym, ap, _∙_}
-use mathlib.Core.List.{List, [], _∷_, _++_, append-assoc}
-use Prim.Native.Nat.{ℕ, _+_, _*_, _-_, _≤_, _<_}
+use mathlib.Core.List.{List, [], _∷_}
+use Prim.Native.Nat.{ℕ, _+_, _*_, _≤_, _<_}
 use native.Mathlib.Omega.{arith}
 use lib.ListN.{length, getD, length-append}
 use Rattle.calculus.specs.declared.Reason.{Reason}
 use Rattle.calculus.specs.declared.Refusal.{Refusal}
-use Rattle.calculus.specs.Tree.{program, Tree, nodes, program-of}
 use Rattle.calculus.specs.Text.{text}
 use Rattle.calculus.specs.Answers.{number, Values}
 use Rattle.calculus.specs.Calls.{front, Writes}
@@ -40,6 +39,16 @@ module _ (r : Refusal) {out mid : List ℕ} {a k : ℕ} (l : longest ≤ length 
     -- which ends the refusal's report
     pub refusal-wrote : {after : List ℕ} {next : ℕ} → Wrote last after b next (41 ∷ []) → Wrote out after 0 next (refusal-report r)
     refusal-wrote u = rw (refusal-is r, ← e) (wrote-more w (wrote-more v u))
+
+-- The bytes b of the reason q, where that is the reason r.
+module _ {r q : Reason} {b : List ℕ} (e : r ≡ q) where
+  -- there is room for as many
+  pub reason-room : {out : List ℕ} {to : ℕ} → length (reasonAtom q) ≡ length b → Room out to (reasonAtom r) → Room out to b
+  reason-room d h = record { fits = omega (arith, ap (λ (x : Reason). length (reasonAtom x)) e) }
+
+  -- where they are its atom they are written as such
+  pub reason-wrote : {out after : List ℕ} {to next : ℕ} → reasonAtom q ≡ b → Wrote out after to next b → Wrote out after to next (reasonAtom r)
+  reason-wrote d h = rw (e, d) h
 
 -- What a run's report begins with: a bracket, behind it the reason, behind that the steps.
 module _ (r : Reason) (k : ℕ) {out mid : List ℕ} {a : ℕ} (l : longest ≤ length out) (w : Wrote out mid 0 a (40 ∷ [])) where

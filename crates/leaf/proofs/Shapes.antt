@@ -1,14 +1,14 @@
 -- What the bytes of a report are, piece by piece, and how many.
-use mathlib.Core.Path.{_≡_, refl, sym, ap, _∙_}
+use mathlib.Core.Path.{_≡_, ap}
 use mathlib.Core.List.{List, [], _∷_, _++_, append-assoc, append-nil}
-use Prim.Native.Nat.{ℕ, _+_, _*_, _≤_, _<_}
+use Prim.Native.Nat.{ℕ, _+_, _≤_, _<_}
 use native.Mathlib.Omega.{arith}
-use lib.ListN.{length, length-append}
+use lib.ListN.{length}
 use Rattle.calculus.specs.declared.Reason.{Reason}
 use Rattle.calculus.specs.declared.Reason.the-variants.{Ended, Steps, Room}
 use Rattle.calculus.specs.declared.Refusal.{Refusal}
 use Rattle.calculus.specs.declared.Refusal.the-variants.{NoProgram, TooLong, NotCanonical, OutOfPlace, BadNumber, NoBinder, TooManyNodes, Incoherent, NoRoom, NoThread, Finished}
-use Rattle.calculus.specs.Tree.{term, program, Tree, nodes, program-of}
+use Rattle.calculus.specs.Tree.{term, Tree, program-of}
 use Rattle.calculus.specs.Run.{End}
 use Rattle.calculus.specs.Sexp.{decimal, digits, bytes}
 use Rattle.calculus.specs.Text.{text, raw-text}
@@ -43,19 +43,6 @@ unfolding reasonAtom bytes decimal digits
 reason-length Ended = omega arith
 reason-length Steps = omega arith
 reason-length Room = omega arith
-
--- the bytes of the three atoms
-pub ended-is : reasonAtom Ended ≡ 53 ∷ 58 ∷ 101 ∷ 110 ∷ 100 ∷ 101 ∷ 100 ∷ []
-unfolding reasonAtom bytes decimal digits
-ended-is = refl
-
-pub steps-is : reasonAtom Steps ≡ 53 ∷ 58 ∷ 115 ∷ 116 ∷ 101 ∷ 112 ∷ 115 ∷ []
-unfolding reasonAtom bytes decimal digits
-steps-is = refl
-
-pub room-is : reasonAtom Room ≡ 52 ∷ 58 ∷ 114 ∷ 111 ∷ 111 ∷ 109 ∷ []
-unfolding reasonAtom bytes decimal digits
-room-is = refl
 
 -- a bracket and the atom `refused`
 abbrev pub refused-head : List ℕ

@@ -47,14 +47,15 @@ filling-all {out₀} {to} {b} {out} {i} h l = record { is = rw (take-all i b l) 
 pub wrote-front : {out after : List ℕ} {next : ℕ} {b : List ℕ} → Wrote out after 0 next b → next ≤ length out → after ≡ front b out
 wrote-front {out} {b = b} h r = let e : 0 + length b ≡ length b = omega arith in h .is ∙ (rw e at (sets-eq b out 0 (omega arith)))
 
--- The part of an output from a place on, lent and given back.
-
+-- The part of an output from a place on, as it is lent,
 abbrev pub lent : List ℕ → ℕ → List ℕ
 lent out at = take (length out - at) (drop at out)
 
+-- and the output when it is given back.
 abbrev pub given-back : List ℕ → ℕ → List ℕ → List ℕ
 given-back out at part = take at out ++ (part ++ drop (length out - at) (drop at out))
 
+-- it has what is left of the output
 pub lent-length : (out : List ℕ) (at : ℕ) → at ≤ length out → length (lent out at) ≡ length out - at
 lent-length out at h = length-take-le (length out - at) (drop at out) (omega (arith, length-drop at out))
 
@@ -66,16 +67,3 @@ part-wrote out at b h =
     let none : drop (length out - at) (drop at out) ≡ [] = drop-of-length-le (drop at out) long in
     let is : given-back out at (front b (lent out at)) ≡ sets out at b = rw (all, none, append-nil, drop-drop, sets-eq b out at h) (sym (append-assoc (take at out) b (drop (at + length b) out))) in
     record { is = is; same-length = ap length is ∙ length-sets out at b; next-is = refl }
-
--- The same bytes, named otherwise.
-module _ {A : Type 0} (f : A → List ℕ) {r q : A} {b : List ℕ} (e : r ≡ q) (d : f q ≡ b) where
-  is-named : f r ≡ b
-  is-named = ap f e ∙ d
-
-  -- have the same room
-  pub named-room : {out : List ℕ} {to : ℕ} → Room out to (f r) → Room out to b
-  named-room {out} {to} h = rw is-named at h
-
-  -- and are written alike
-  pub named-wrote : {out after : List ℕ} {to next : ℕ} → Wrote out after to next b → Wrote out after to next (f r)
-  named-wrote h = rw is-named h

@@ -5,7 +5,7 @@ use libc::STDIN_FILENO;
 use libc::STDOUT_FILENO;
 
 fn main() {
-    // one byte more than the longest text: a longer input is as refused as it
+    // up to one byte past the longest text: its report is that of the whole input (`cut-reported` of proofs/Once.antt); a read that fails is the end
     let mut input = [0u8; 24577];
     let n = io::read_full(STDIN_FILENO, &mut input);
     let mut out = [0u8; 24592];

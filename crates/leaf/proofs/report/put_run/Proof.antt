@@ -1,5 +1,5 @@
 -- `leaf::report::put_run` meets its contract: the program in the table is run, not refused, and the report of its end is that of the run.
-use mathlib.Core.Path.{refl, ap}
+use mathlib.Core.Path.{ap}
 use native.Mathlib.Omega.{arith}
 use borrow.Author.Needs.{needs}
 use Rattle.calculus.specs.Answers.{Values, ranValues}

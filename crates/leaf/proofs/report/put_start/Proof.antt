@@ -11,7 +11,7 @@ put-reason-requires : tie.Need-put-reason-requires
 put-reason-requires c κs = search start-reason
 
 put-number-requires : tie.Need-put-number-requires
-put-number-requires c κs = search start-number
+put-number-requires c κs = let v = c .before .before .before in let u = v .before .before .before .before in start-number _ _ (u .before .before .before .pre) (u .put .ensures) (v .put-reason .ensures) (search needs)
 
 same-length : tie.Need-same-length
 same-length c = search needs
