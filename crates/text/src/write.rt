@@ -80,7 +80,7 @@ pub struct Place {
 }
 
 // One byte.
-fn put(out: &mut [u8], to: usize, b: u8) -> usize
+pub fn put(out: &mut [u8], to: usize, b: u8) -> usize
     requires { ⌜ Room (now out) to (b ∷ []) ⌝ }
     ensures { λ r. ⌜ Wrote (now (out .entry)) (now (out .exit)) to r (b ∷ []) ⌝ }
 {
@@ -100,7 +100,7 @@ fn put_tag(out: &mut [u8], to: usize, tag: u8) -> usize
 }
 
 // A number as an N: its length of one digit, a colon, its digits from the last to the first.
-fn put_number(out: &mut [u8], to: usize, n: u16) -> usize
+pub fn put_number(out: &mut [u8], to: usize, n: u16) -> usize
     requires { ⌜ Room (now out) to (numeral n) ⌝ }
     ensures { λ r. ⌜ Wrote (now (out .entry)) (now (out .exit)) to r (numeral n) ⌝ }
 {

@@ -1,0 +1,138 @@
+-- What the read and the run leave, and the report of both: what is read is run, and its end is written.
+use mathlib.Core.Path.{_≡_, refl, sym, ap, _∙_}
+use mathlib.Core.List.{List, [], _∷_}
+use Prim.Native.Nat.{ℕ, _*_, _≤_}
+use native.Mathlib.Omega.{arith}
+use lib.ListN.{length, getD, drop, replicate, length-append, length-replicate}
+use Rattle.calculus.specs.declared.Reason.{Reason}
+use Rattle.calculus.specs.declared.Reason.the-variants.{Ended, Steps, Room}
+use Rattle.calculus.specs.declared.Refusal.{Refusal}
+use Rattle.calculus.specs.Tree.{term, program, Tree, nodes, threads, program-of}
+use Rattle.calculus.specs.Run.{End, run, room-of}
+use Rattle.calculus.specs.Answers.{number, reasonCode, Values}
+use Rattle.calculus.specs.Calls.{Reads, TableOf, ran-values, RunsWith}
+use Rattle.calculus.specs.Report.{report, refusal-report, reported, refused}
+use Rattle.calculus.proofs.Runs.{program-run-only}
+use Rattle.calculus.proofs.Outcomes.{table-of-unique}
+use Rattle.text.specs.Writer.{numeral, Wrote}
+use Rattle.text.proofs.RoundTrip.{accepted}
+use Rattle.mespindro.specs.Limit.{limit}
+use Rattle.promises.specs.Worked.{HasRead, HasRun}
+use Rattle.promises.proofs.Admitted.{number-positive}
+use Rattle.promises.proofs.Worked.{read-gives, run-gives, good-runs}
+use Rattle.promises.proofs.Refused.{reads-exactly, read-length}
+use Rattle.leaf.specs.Reported.{most, longest, Reported}
+use Rattle.leaf.specs.Written.{HoldsGood, Loaded, EndWritten, RunWritten}
+use Rattle.leaf.proofs.Stores.{wrote-front}
+use Rattle.leaf.proofs.Shapes.{number-small, numeral-length, refusal-is}
+
+-- a table of zeros holds the limit's nodes
+pub zeros-long : length (replicate {A = ℕ} (2 * limit) 0) ≡ 2 * limit
+zeros-long = length-replicate {A = ℕ} (2 * limit) 0
+
+-- a reason by its code
+reason-of : ℕ → Reason
+reason-of k = getD (Ended ∷ Ended ∷ Steps ∷ Room ∷ []) k Ended
+
+code-reason : (r : Reason) → reason-of (reasonCode r) ≡ r
+unfolding reason-of
+code-reason Ended = refl
+code-reason Steps = refl
+code-reason Room = refl
+
+-- what a run that stopped returns
+abbrev pub stopped : Reason → ℕ → ℕ → Values
+stopped r m k = record { refusal = 0; values = reasonCode r ∷ m ∷ k ∷ [] }
+
+-- The run of the program in the table, in a work table as long, for so many steps as are allowed.
+module _ {table : List ℕ} {count : ℕ} {work : List ℕ} {allowed : ℕ} {v : Values} {t w : List ℕ} (h : Loaded limit table count) (long : length work ≡ 2 * limit) (c : RunsWith limit table count work allowed v t w) where
+  abbrev loaded-end : End (List (Tree term))
+  loaded-end = run limit allowed (threads (h .holds .program-there))
+
+  room-is : room-of limit table work ≡ limit
+  room-is = omega arith
+
+  run-values : v ≡ ran-values loaded-end
+  run-values = let g = h .holds in rw room-is at (good-runs (g .table-of) (g .good) (omega (arith, g .table-of .small)) c .0)
+
+  has-run : HasRun limit table count work allowed v t w
+  has-run = run-gives c (ap (λ (x : Values). x .refusal) run-values)
+
+  end-is : has-run .end ≡ loaded-end
+  end-is = rw (room-is, table-of-unique (has-run .table-of) (h .holds .table-of)) at (program-run-only (has-run .is-run))
+
+  -- it is not refused
+  pub run-not-refused : (q : Refusal) → v .refusal ≡ number q → ⊥
+  run-not-refused q f = omega (arith, number-positive q, ap (λ (x : Values). x .refusal) run-values)
+
+  module _ (r : Reason) {m k : ℕ} (f : v ≡ stopped r m k) where
+    value : (i : ℕ) → getD (reasonCode r ∷ m ∷ k ∷ []) i 0 ≡ getD (ran-values (has-run .end) .values) i 0
+    value i = ap (λ (x : Values). getD (x .values) i 0) (sym f ∙ has-run .values)
+
+    reason-is : r ≡ has-run .end .reason
+    reason-is = sym (code-reason r) ∙ ap reason-of (value 0) ∙ code-reason (has-run .end .reason)
+
+    -- the steps are as few as the limit says
+    pub run-few : k ≤ allowed
+    run-few = omega (arith, value 2, has-run .is-run .within)
+
+    end-there : TableOf limit t m (program-of (has-run .end .last))
+    end-there = rw (value 1) (has-run .back)
+
+    -- the table holds the end, a good program
+    pub run-holds : HoldsGood limit t m
+    run-holds = record { program-there = program-of (has-run .end .last); table-of = end-there; good = has-run .result-good }
+
+    end-told : _≡_ {A = End (List (Tree term))} (record { reason = r; taken = k; last = has-run .end .last }) (has-run .end)
+    end-told = rw (reason-is, value 2)
+
+    -- its report is that of the run
+    pub run-written : {out after : List ℕ} {next : ℕ} → EndWritten limit r k t m out after next → RunWritten limit allowed table count out after next
+    run-written e = record {
+      fits = e .fits;
+      wrote = λ q s. rw (table-of-unique s (h .holds .table-of), ← end-is, ← end-told) (e .wrote (has-run .end .last) end-there);
+    }
+
+-- The read of the text b into a table of zeros.
+module _ {b : List ℕ} {v : Values} {t : List ℕ} (c : Reads limit b (replicate (2 * limit) 0) v t) where
+  module _ {m : ℕ} (f : v ≡ accepted m) where
+    has-read : HasRead limit b (replicate (2 * limit) 0) v t
+    has-read = read-gives c (ap (λ (x : Values). x .refusal) f)
+
+    counts : nodes (has-read .program) ≡ m
+    counts = ap (λ (l : List ℕ). getD l 0 0) (sym (has-read .values) ∙ ap (λ (x : Values). x .values) f)
+
+    read-there : TableOf limit t m (has-read .program)
+    read-there = rw counts at (has-read .back)
+
+    -- the table holds a good program
+    pub read-loaded : Loaded limit t m
+    read-loaded = record {
+      holds = record { program-there = has-read .program; table-of = read-there; good = has-read .good };
+      wide = read-length c ∙ zeros-long;
+    }
+
+    -- the report of its run is the text's
+    pub run-reported : {out after : List ℕ} {next : ℕ} → RunWritten limit most t m out after next → Reported limit most b out next after
+    run-reported {out} {after} {next} w =
+        let p = has-read .program in
+        let u = w .wrote p read-there in
+        record {
+          written = report (run limit most (threads p));
+          reports = reported p (reads-exactly c .accepted-only (ap (λ (x : Values). x .refusal) f)) (record { is = has-read .is; ranges = has-read .good .ranges });
+          counts = omega (arith, u);
+          is = wrote-front u (w .fits);
+        }
+
+  -- the report of a refusal is the text's
+  pub refusal-reported : (r : Refusal) {out after : List ℕ} {next : ℕ} → v .refusal ≡ number r → longest ≤ length out → Wrote out after 0 next (refusal-report r) → Reported limit most b out next after
+  refusal-reported r f l u = record {
+    written = refusal-report r;
+    reports = refused r (reads-exactly c .refused-only r f);
+    counts = omega arith;
+    is = wrote-front u (omega (arith, ap length (refusal-is r), length-append (numeral (number r)) (41 ∷ []), numeral-length (number r) (omega (arith, number-small r))));
+  }
+
+-- a report is within its output
+pub reported-within : {n k : ℕ} {b out : List ℕ} {count : ℕ} {after : List ℕ} → Reported n k b out count after → length after ≡ length out → count ≤ length after
+reported-within {out = out} r e = omega (arith, r .counts, ap length (r .is), length-append (r .written) (drop (length (r .written)) out))

@@ -1,0 +1,6 @@
+-- Laws of reports.
+pub mod Stores
+pub mod Shapes
+pub mod Reporting
+pub mod Calling
+pub mod Once

@@ -1,0 +1,48 @@
+-- What the program writes is a function of the bytes: one report of a text, and no byte past the text limit changes it.
+use mathlib.Core.Path.{_≡_, refl, sym, ap, _∙_}
+use mathlib.Core.Logic.{⊎-elim, inl, inr}
+use mathlib.Core.List.{List}
+use Prim.Native.Nat.{ℕ, _+_, _*_, _≤_, _<_}
+use native.Mathlib.Nat.{eq-or-lt-of-le}
+use native.Mathlib.Omega.{arith}
+use lib.ListN.{length, take, replicate, length-take}
+use lib.Seq.{take-all}
+use Rattle.calculus.specs.declared.Refusal.the-variants.{TooLong}
+use Rattle.calculus.specs.Tree.{program, Tree, threads}
+use Rattle.calculus.specs.Run.{run}
+use Rattle.calculus.specs.Calls.{front, read-refusals}
+use Rattle.calculus.specs.Report.{report, refusal-report, Reports, reported, refused}
+use Rattle.calculus.proofs.Refusals.{accepted-not-refused, one-refusal}
+use Rattle.calculus.proofs.Outcomes.{text-of-unique}
+use Rattle.leaf.specs.Reported.{Reported}
+
+module _ {n k : ℕ} {b : List ℕ} where
+  -- two reports of one text are equal
+  pub reports-once : {w u : List ℕ} → Reports n k b w → Reports n k b u → w ≡ u
+  reports-once (reported p a t) (reported q c s) = ap (λ (x : Tree program). report (run n k (threads x))) (text-of-unique t s)
+  reports-once (reported p a t) (refused r g) = absurd (accepted-not-refused (read-refusals n b (replicate (2 * n) 0)) r a g)
+  reports-once (refused r g) (reported p a t) = absurd (accepted-not-refused (read-refusals n b (replicate (2 * n) 0)) r a g)
+  reports-once (refused r g) (refused q h) = ap refusal-report (one-refusal (read-refusals n b (replicate (2 * n) 0)) r q g h)
+
+  -- and so are two outcomes that the contract allows
+  pub reported-once : {out : List ℕ} {c d : ℕ} {o u : List ℕ} → Reported n k b out c o → Reported n k b out d u → (c ≡ d) × (o ≡ u)
+  reported-once {out} r s =
+      let e = reports-once (r .reports) (s .reports) in
+      (sym (r .counts) ∙ ap length e ∙ s .counts, r .is ∙ ap (λ (l : List ℕ). front l out) e ∙ sym (s .is))
+
+  -- the report of a text past the limit is a refusal, whatever the text
+  too-long : {w : List ℕ} → 12 * n < length b → Reports n k b w → w ≡ refusal-report TooLong
+  too-long h (reported p a t) = absurd (a .0 h)
+  too-long h (refused r (inl g)) = ap refusal-report (g .1)
+  too-long h (refused r (inr g)) = absurd (g .0 h)
+
+-- what is reported of an input up to one byte past the limit is the report of the whole input
+pub cut-reported : {n k : ℕ} (b : List ℕ) {w : List ℕ} → Reports n k (take (12 * n + 1) b) w → Reports n k b w
+cut-reported {n} b h =
+    let m : ℕ = 12 * n + 1 in
+    let size = length-take m b in
+    let within : length (take m b) ≤ m = omega arith in
+    ⊎-elim
+    (λ (e : length (take m b) ≡ m). rw (too-long (omega arith) h) (refused TooLong (inl (omega arith, refl))))
+    (λ (l : length (take m b) < m). rw (take-all m b (omega arith)) at h)
+    (eq-or-lt-of-le within)

@@ -1,0 +1,23 @@
+-- What the program writes: its report, at the front of an output.
+use mathlib.Core.Path.{_≡_}
+use mathlib.Core.List.{List}
+use Prim.Native.Nat.{ℕ, _+_, _*_}
+use lib.ListN.{length}
+use Rattle.calculus.specs.Calls.{front}
+use Rattle.calculus.specs.Report.{Reports}
+use Rattle.mespindro.specs.Limit.{limit}
+
+-- "runs 10,000 steps"
+abbrev pub most : ℕ
+most = 10000
+
+-- the longest report: brackets, a reason of 7 bytes, a count of at most 7, the longest text
+abbrev pub longest : ℕ
+longest = 12 * limit + 16
+
+-- the report of the text b, with the node limit n and the step limit k, fills the front of the output; the rest is as it was
+pub record Reported (n k : ℕ) (b out : List ℕ) (count : ℕ) (after : List ℕ) : Type 0 where
+  pub written : List ℕ
+  pub reports : Reports n k b written
+  pub counts : length written ≡ count
+  pub is : after ≡ front written out

@@ -1,0 +1,102 @@
+// What the program writes for an input: one function of its bytes.
+ghost use Prim.Native.Nat.{_≤_};
+ghost use lib.ListN.{length};
+ghost use Rattle.calculus.specs.Report.{refusal-report};
+ghost use Rattle.text.specs.Writer.{Room, Wrote};
+ghost use Rattle.mespindro.specs.Limit.{limit};
+ghost use Rattle.leaf.specs.Reported.{longest, most, Reported};
+ghost use Rattle.leaf.specs.Written.{reasonAtom, startBytes, HoldsGood, Loaded, EndWritten, RunWritten};
+use calculus::Counted;
+use calculus::Ran;
+use calculus::Reason;
+use calculus::Refusal;
+use calculus::refusal_number;
+use text::write::put;
+use text::write::put_number;
+
+const MOST: u32 = 10000;
+
+// Some bytes.
+fn put_all(out: &mut [u8], to: usize, b: &[u8]) -> usize
+    requires { ⌜ Room (now out) to (now b) ⌝ }
+    ensures { λ r. ⌜ Wrote (now (out .entry)) (now (out .exit)) to r (now (b .entry)) ⌝ }
+{
+    let mut i: usize = 0;
+    while i < b.len() {
+        out[to + i] = b[i];
+        i += 1;
+    }
+    to + i
+}
+
+// The report of a refusal.
+fn put_refusal(r: Refusal, out: &mut [u8]) -> usize
+    requires { ⌜ longest ≤ length (now out) ⌝ }
+    ensures { λ k. ⌜ Wrote (now (out .entry)) (now (out .exit)) 0 k (refusal-report r) ⌝ }
+{
+    let a = put_all(out, 0, b"(7:refused");
+    let b = put_number(out, a, refusal_number(r));
+    put(out, b, b')')
+}
+
+// The atom of a reason.
+fn put_reason(reason: Reason, out: &mut [u8], to: usize) -> usize
+    requires { ⌜ Room (now out) to (reasonAtom reason) ⌝ }
+    ensures { λ r. ⌜ Wrote (now (out .entry)) (now (out .exit)) to r (reasonAtom reason) ⌝ }
+{
+    match reason {
+        Reason::Ended => put_all(out, to, b"5:ended"),
+        Reason::Steps => put_all(out, to, b"5:steps"),
+        Reason::Room => put_all(out, to, b"4:room"),
+    }
+}
+
+// What a run's report begins with: bracket, reason, steps.
+fn put_start(reason: Reason, steps: u16, out: &mut [u8]) -> usize
+    requires { ⌜ longest ≤ length (now out) ⌝ }
+    ensures { λ r. ⌜ Wrote (now (out .entry)) (now (out .exit)) 0 r (startBytes reason steps) ⌝ }
+{
+    let a = put(out, 0, b'(');
+    let b = put_reason(reason, out, a);
+    put_number(out, b, steps)
+}
+
+// The report of an end: reason, steps, the program in the table.
+fn put_end(reason: Reason, steps: u16, table: &[u16], nodes: usize, out: &mut [u8]) -> usize
+    requires { ⌜ HoldsGood limit (now table) nodes ⌝ }
+    requires { ⌜ longest ≤ length (now out) ⌝ }
+    ensures { λ r. ⌜ EndWritten limit reason steps (now (table .entry)) nodes (now (out .entry)) (now (out .exit)) r ⌝ }
+{
+    let at = put_start(reason, steps, out);
+    match mespindro::write(table, nodes, &mut out[at..]) {
+        Counted::Count(n) => put(out, at + n, b')'),
+        // cannot be: the end of a run is written
+        Counted::Refused(r) => put_refusal(r, out),
+    }
+}
+
+// The run of the program in the table, and its report.
+fn put_run(count: usize, table: &mut [u16], out: &mut [u8]) -> usize
+    requires { ⌜ Loaded limit (now table) count ⌝ }
+    requires { ⌜ longest ≤ length (now out) ⌝ }
+    ensures { λ r. ⌜ RunWritten limit most (now (table .entry)) count (now (out .entry)) (now (out .exit)) r ⌝ }
+{
+    let mut work = [0u16; 4096];
+    match mespindro::run(table, count, &mut work, MOST) {
+        Ran::Stopped(reason, nodes, steps) => put_end(reason, steps as u16, table, nodes, out),
+        // cannot be: what was read is run
+        Ran::Refused(r) => put_refusal(r, out),
+    }
+}
+
+// The report of a text at the front of the output, and its length.
+pub fn report(text: &[u8], out: &mut [u8]) -> usize
+    requires { ⌜ longest ≤ length (now out) ⌝ }
+    ensures { λ r. ⌜ Reported limit most (now (text .entry)) (now (out .entry)) r (now (out .exit)) ⌝ }
+{
+    let mut table = [0u16; 4096];
+    match mespindro::read(text, &mut table) {
+        Counted::Count(n) => put_run(n, &mut table, out),
+        Counted::Refused(r) => put_refusal(r, out),
+    }
+}
