@@ -2,16 +2,26 @@
 
 use crate::evaluator::text::{program_expression, put_expression, write_text, Expression};
 use crate::evaluator::tree::{application, fresh, guard, program_size, unification, Program, Term};
+use crate::evaluator::NODES;
 use crate::random::Random;
 
-/// A program that is closed, coherent and in range.
+/// A program that is closed, coherent, in range and not too large.
 pub fn sound_program(random: &mut Random) -> Program {
-    program(random, Faults { one_in: 0 })
+    let none = Faults {
+        indices: 0,
+        closures: 0,
+    };
+    let mut program = program(random, none);
+    while program_size(&program) > NODES {
+        program.pop();
+    }
+    program
 }
 
 /// A program in which a bound variable may have no binder and a thread may be incoherent.
 pub fn faulty_program(random: &mut Random) -> Program {
-    program(random, Faults { one_in: 12 })
+    let (indices, closures) = random.pick(&[(12, 0), (0, 5), (0, 5), (20, 5)]);
+    program(random, Faults { indices, closures })
 }
 
 fn program(random: &mut Random, faults: Faults) -> Program {
@@ -86,10 +96,11 @@ fn tower(levels: u16, random: &mut Random) -> Term {
     }
 }
 
-/// How often a number is taken without regard to soundness; 0 is never.
+/// One in how many bound variables and allocated abstractions is made without regard to soundness; 0 is none.
 #[derive(Clone, Copy)]
 struct Faults {
-    one_in: usize,
+    indices: usize,
+    closures: usize,
 }
 
 /// What the terms of one thread have in common: its allocated abstractions.
@@ -117,8 +128,8 @@ impl Thread<'_> {
         thread
     }
 
-    fn fault(&mut self) -> bool {
-        self.faults.one_in > 0 && self.random.one_in(self.faults.one_in)
+    fn fault(&mut self, one_in: usize) -> bool {
+        one_in > 0 && self.random.one_in(one_in)
     }
 
     /// The alternatives of a body inside `binders` binders.
@@ -160,7 +171,7 @@ impl Thread<'_> {
     }
 
     fn leaf(&mut self, binders: usize) -> Term {
-        if self.fault() {
+        if self.fault(self.faults.indices) {
             return Term::Bound(self.random.below(binders + 3) as u16);
         }
         match self.random.below(8) {
@@ -181,9 +192,11 @@ impl Thread<'_> {
 
     /// One of the thread's allocated abstractions.
     fn closure(&mut self, budget: usize, binders: usize) -> Term {
-        if self.fault() {
+        if self.fault(self.faults.closures) {
             let location = self.random.below(4) as u16;
-            return Term::Allocated(location, self.body(budget, binders));
+            // closed, so that only its location is against it, or reaching out
+            let around = self.random.pick(&[0, 0, binders]);
+            return Term::Allocated(location, self.body(budget, around));
         }
         if self.closures.is_empty() {
             return self.constructor();
@@ -457,7 +470,7 @@ pub fn any_table(random: &mut Random) -> Vec<u16> {
     let length = random.pick(&[0, 1, 2, 3, 4, 6, 8, 9, 14, 20, 31, 40]);
     let wild = random.one_in(4);
     let number = |random: &mut Random, place: usize| match place % 2 {
-        _ if wild => random.next() as u16,
+        _ if wild => random.draw() as u16,
         0 => random.pick(&[0, 0, 1, 1, 1, 2, 3, 4, 4, 5, 6, 7, 8, 9, 10, 11, 12]),
         _ => random.pick(&[0, 0, 0, 0, 0, 0, 1, 2, 2047, 2048, 65535]),
     };

@@ -1,12 +1,26 @@
 //! Smaller calls that still differ.
 
 use crate::compare::{compare, Call};
+use crate::evaluator::text::{parse, put_expression, Expression};
 
 /// The smallest call found that still differs: parts are dropped as long as it does.
 pub fn shrink(call: Call) -> Call {
-    let mut call = call;
+    // lengths and limits that were chosen for the larger program would hold it as it is
+    let mut call = Some(roomy(&call)).filter(differs).unwrap_or(call);
     while let Some(smaller) = candidates(&call).into_iter().find(differs) {
         call = smaller;
+    }
+    call
+}
+
+/// The call with a large output or work table and a limit of some steps.
+fn roomy(call: &Call) -> Call {
+    let mut call = call.clone();
+    match &mut call {
+        Call::Read { out, .. } | Call::Step { out, .. } => *out = 4096,
+        Call::Write { out, .. } => *out = 24_576,
+        Call::Run { work, most, .. } => (*work, *most) = (4096, 60),
+        Call::Standing { .. } | Call::Thread { .. } => {}
     }
     call
 }
@@ -19,7 +33,10 @@ fn differs(call: &Call) -> bool {
 fn candidates(call: &Call) -> Vec<Call> {
     match call {
         Call::Read { text, out } => {
-            let texts = without_parts(text, 1).into_iter();
+            let mut texts = without_parts(text, 1);
+            texts.extend(without_members(text));
+            texts.extend(without_brackets(text));
+            let texts = texts.into_iter();
             let mut calls: Vec<Call> = texts.map(|text| Call::Read { text, out: *out }).collect();
             calls.extend(smaller_numbers(*out).map(|out| Call::Read {
                 text: text.clone(),
@@ -89,7 +106,9 @@ fn without_parts<T: Copy>(items: &[T], unit: usize) -> Vec<Vec<T>> {
     let mut smaller = Vec::new();
     let mut size = items.len() / unit;
     while size > 0 {
-        for start in (0..items.len()).step_by(size * unit) {
+        // small parts are tried at every place
+        let stride = if size <= 4 { unit } else { size * unit };
+        for start in (0..items.len()).step_by(stride) {
             let end = (start + size * unit).min(items.len());
             smaller.push([&items[..start], &items[end..]].concat());
         }
@@ -98,20 +117,61 @@ fn without_parts<T: Copy>(items: &[T], unit: usize) -> Vec<Vec<T>> {
     smaller
 }
 
-/// The program with one subtree of more than one node made constructor 0, or replaced by one of its own parts.
+/// The text of its expression without one member of a list, or with a list's member in the list's place.
+fn without_members(text: &[u8]) -> Vec<Vec<u8>> {
+    let smaller = parse(text).map_or(Vec::new(), |whole| smaller_expressions(&whole));
+    let text_of = |expression: &Expression| {
+        let mut text = Vec::new();
+        put_expression(expression, &mut text);
+        text
+    };
+    smaller.iter().map(text_of).collect()
+}
+
+fn smaller_expressions(expression: &Expression) -> Vec<Expression> {
+    let Expression::List(members) = expression else {
+        return Vec::new();
+    };
+    let mut smaller = members.clone();
+    for (place, member) in members.iter().enumerate() {
+        let with = |new: &[Expression]| {
+            Expression::List([&members[..place], new, &members[place + 1..]].concat())
+        };
+        smaller.push(with(&[]));
+        smaller.extend(smaller_expressions(member).into_iter().map(|m| with(&[m])));
+    }
+    smaller
+}
+
+/// The text without an opening and a closing bracket behind it.
+fn without_brackets(text: &[u8]) -> Vec<Vec<u8>> {
+    let places = |bracket| (0..text.len()).filter(move |i| text[*i] == bracket);
+    let mut smaller = Vec::new();
+    for open in places(b'(') {
+        for close in places(b')').filter(|close| *close > open).take(20) {
+            let between = &text[open + 1..close];
+            smaller.push([&text[..open], between, &text[close + 1..]].concat());
+        }
+    }
+    smaller
+}
+
+/// The program with one subtree of more than one node made constructor 0, or replaced by a term inside it.
 fn without_subtrees(program: &[u16]) -> Vec<Vec<u16>> {
     let mut smaller = Vec::new();
     for start in (0..program.len()).step_by(2) {
-        let is_term = (5..=10).contains(&program[start]);
-        let Some(end) = subtree_end(program, start).filter(|_| is_term) else {
+        let is_term = |place: usize| (2..=10).contains(&program[place]);
+        let Some(end) = subtree_end(program, start).filter(|_| is_term(start)) else {
             continue;
         };
         let with = |part: &[u16]| [&program[..start], part, &program[end..]].concat();
-        smaller.push(with(&[4, 0]));
-        let first = start + 2;
-        if let Some(middle) = subtree_end(program, first) {
-            smaller.push(with(&program[first..middle]));
-            smaller.push(with(&program[middle..end]));
+        if end > start + 2 {
+            smaller.push(with(&[4, 0]));
+        }
+        // a long program has lost most of its nodes before this is worth its time
+        let inner = (start + 2..end).step_by(2).filter(|_| program.len() < 300);
+        for first in inner.filter(|first| is_term(*first)) {
+            smaller.extend(subtree_end(program, first).map(|last| with(&program[first..last])));
         }
     }
     smaller
