@@ -5,7 +5,7 @@
  *
  * Nothing is allocated and nothing is kept between two calls. A call reads and writes only what it is lent: `const` pointers are read, the
  * others written; a length counts elements (bytes of a text, numbers of a table). The buffers of one call must not overlap. A buffer of
- * length 0 may be at any address but NULL.
+ * length 0 may be at any address but NULL, and a table is aligned as a uint16_t is.
  *
  * Every call ends, whatever the bytes, the numbers, the lengths and the limits are. It answers its result or a refusal's number, and then
  * its counts are 0 and nothing in the buffers has changed. Where several refusals apply the lowest is given. All of this is proved;
