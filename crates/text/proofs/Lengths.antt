@@ -7,15 +7,15 @@ use native.Mathlib.Nat.{pow-suc, one-le-pow}
 use native.Mathlib.Omega.{arith}
 use lib.ListN.{length, getD, drop, length-append}
 use lib.Seq.{drop-at}
-use Rattle.calculus.specs.Tree.{Sort, Pair, app, guard, unif, code, at, Tree, empty, alt, bound, free, con, abs, fresh, two, pairKind, nodes, preorder}
+use Rattle.calculus.specs.Tree.{Sort, term, program, Pair, app, guard, unif, code, at, Tree, empty, alt, bound, free, con, abs, fresh, two, pairKind, nodes, preorder}
 use Rattle.calculus.specs.Sexp.{decimal}
 use Rattle.calculus.proofs.Decimals.{decimal-small, decimal-large}
 use Rattle.calculus.proofs.Preorders.{preorder-length}
 use Rattle.table.specs.Nodes.{NodeIs}
 use Rattle.table.proofs.Trees.{here-node, one-tree, ends-in}
 use Rattle.text.specs.Writing.{CountedProgram, TextLength}
-use Rattle.text.specs.Writer.{DigitCount, numbered, headBytes, nodeBytes, NodeBytes, whole, inner}
-use Rattle.text.proofs.Written.{numeral-is, term-length, members, members-alt, members-empty, program-length, text-is}
+use Rattle.text.specs.Writer.{DigitCount, numbered, headBytes, nodeBytes, NodeBytes, spelt}
+use Rattle.text.proofs.Written.{numeral-is, inner, bracketed, term-length, members-alt, members-empty, bracketed-length, text-is}
 
 -- A number.
 
@@ -69,18 +69,23 @@ pair-bytes app = refl
 pair-bytes guard = refl
 pair-bytes unif = refl
 
+-- the bytes of a term, and of a program in its brackets
+abbrev whole : {s : Sort} → Tree s → List ℕ
+whole {s = term} x = spelt x
+whole {s = program} p = bracketed p
+
 counted-tree : {s : Sort} (x : Tree s) (r : List ℕ) → counted (preorder x ++ r) ≡ length (whole x) + counted r
 unfolding counted preorder inner
-counted-tree empty r = omega (arith, program-length empty, ap length members-empty)
+counted-tree empty r = omega (arith, bracketed-length empty, ap length members-empty)
 counted-tree (alt x p) r =
-    omega (arith, ap counted (append-assoc (preorder x) (preorder p) r), counted-tree x (preorder p ++ r), counted-tree p r, program-length (alt x p), program-length p, ap length (members-alt x p), length-append (whole x) (members p))
+    omega (arith, ap counted (append-assoc (preorder x) (preorder p) r), counted-tree x (preorder p ++ r), counted-tree p r, bracketed-length (alt x p), bracketed-length p, ap length (members-alt x p), length-append (spelt x) (spelt p))
 counted-tree (bound i) r = omega (arith, term-length (bound i))
 counted-tree (free x) r = omega (arith, term-length (free x))
 counted-tree (con c) r = omega (arith, term-length (con c))
 counted-tree (abs code p) r = omega (arith, term-length (abs code p), counted-tree p r)
 counted-tree (abs (at l) p) r = omega (arith, term-length (abs (at l) p), counted-tree p r)
 counted-tree (fresh x) r = omega (arith, term-length (fresh x), counted-tree x r)
-counted-tree (two o x y) r = omega (arith, pair-bytes o, ap counted (append-assoc (preorder x) (preorder y) r), counted-tree x (preorder y ++ r), counted-tree y r, term-length (two o x y), length-append (whole x) (whole y))
+counted-tree (two o x y) r = omega (arith, pair-bytes o, ap counted (append-assoc (preorder x) (preorder y) r), counted-tree x (preorder y ++ r), counted-tree y r, term-length (two o x y), length-append (spelt x) (spelt y))
 
 -- While the nodes are counted: what is counted and what is left make the bytes of the whole table.
 pub record Counting (t : List ℕ) (count total i : ℕ) : Type 0 where

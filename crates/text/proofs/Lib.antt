@@ -1,5 +1,6 @@
 -- Laws of texts.
 pub mod Written
+pub mod Pieces
 pub mod Lengths
 pub mod Decimals
 pub mod Grammar

@@ -1,5 +1,5 @@
 -- What the writing call answers, from the check of its table and from the length of the text.
-use mathlib.Core.Path.{_≡_, refl, _∙_}
+use mathlib.Core.Path.{_≡_, refl, ap, _∙_}
 use mathlib.Core.Logic.{inl}
 use mathlib.Core.List.{List, [], _∷_}
 use Prim.Native.Nat.{ℕ, _+_, _≤_, _<_}
@@ -8,15 +8,16 @@ use lib.ListN.{length}
 use lib.Seq.{sets, sets-eq}
 use Rattle.calculus.specs.declared.Refusal.{Refusal}
 use Rattle.calculus.specs.declared.Refusal.the-variants.{NoRoom}
-use Rattle.calculus.specs.Tree.{program, Tree}
+use Rattle.calculus.specs.Tree.{program, Tree, nodes}
 use Rattle.calculus.specs.Text.{text}
 use Rattle.calculus.specs.Answers.{number}
 use Rattle.calculus.specs.Calls.{Refusals, front, TableOf, table-refusals, Writes, not-written}
 use Rattle.table.specs.Checks.{in-force, checkedNumber, Checks}
 use Rattle.table.specs.declared.Checked.{Checked}
 use Rattle.table.specs.declared.Checked.the-variants.{Refused}
+use Rattle.table.proofs.Trees.{one-tree}
 use Rattle.table.proofs.Verdicts.{AdmittedIn, refused-there, refuses-early, refuses-late, table-stands}
-use Rattle.text.specs.Writing.{CountedProgram, TextLength, RoomForText, TextWritten}
+use Rattle.text.specs.Writing.{CountedProgram, TextLength, RoomForText, CellsForText, TextWritten}
 use Rattle.text.proofs.RoundTrip.{good-written}
 
 -- what is stored from the beginning on is the new front
@@ -42,6 +43,12 @@ module _ {n : ℕ} {t : List ℕ} {count : ℕ} (a : AdmittedIn n t count) where
   -- an admitted program has its nodes counted
   pub counted : CountedProgram t count
   counted = record { program-there = a .program-there; stands = table-stands (a .table-of); counts = a .table-of .counts }
+
+  -- and a scratch that serves the check has a cell for each
+  pub write-cells : (scratch : List ℕ) → n + 2 ≤ length scratch → CellsForText t scratch
+  write-cells scratch h = record {
+    enough = λ p g. omega (arith, a .table-of .small, a .table-of .counts, ap nodes (one-tree p (a .program-there) g (table-stands (a .table-of))));
+  }
 
   module _ {out : List ℕ} {r : ℕ} (l : TextLength t r) where
     -- its text is longer than the output

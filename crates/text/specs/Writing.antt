@@ -24,6 +24,10 @@ pub record RoomForText (t out : List ℕ) : Type 0 where
   pub stands : Stands t 0 program-there
   pub room : length (text program-there) ≤ length out
 
+-- and a stack that has a cell for each of its nodes
+pub record CellsForText (t stack : List ℕ) : Type 0 where
+  pub enough : (p : Tree program) → Stands t 0 p → nodes p ≤ length stack
+
 -- the text at the front of the output, the rest as it was
 pub record TextWritten (t out after : List ℕ) : Type 0 where
   pub is : (p : Tree program) → Stands t 0 p → after ≡ sets out 0 (text p)

@@ -23,7 +23,7 @@ pub fn write(t: &[u16], count: usize, out: &mut [u8], limit: usize, scratch: &mu
             if out.len() < n {
                 return Counted::Refused(Refusal::NoRoom);
             }
-            put_text(t, out);
+            put_text(t, out, scratch);
             Counted::Count(n)
         }
     }

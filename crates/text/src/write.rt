@@ -3,11 +3,9 @@ ghost use mathlib.Core.Path.{_≡_};
 ghost use mathlib.Core.Bool.{false};
 ghost use mathlib.Core.List.{[], _∷_};
 ghost use Prim.Native.Nat.{_<_};
-ghost use lib.ListN.{getD};
-ghost use Rattle.calculus.specs.Tree.{program, term};
-ghost use Rattle.table.specs.Nodes.{kindAt};
-ghost use Rattle.text.specs.Writing.{CountedProgram, TextLength, RoomForText, TextWritten};
-ghost use Rattle.text.specs.Writer.{DigitCount, numbered, NodeBytes, tagBytes, numeral, headBytes, Room, Wrote, whole, inner, Asked, Put};
+ghost use lib.ListN.{length, getD};
+ghost use Rattle.text.specs.Writing.{CountedProgram, TextLength, RoomForText, CellsForText, TextWritten};
+ghost use Rattle.text.specs.Writer.{DigitCount, numbered, NodeBytes, tagBytes, numeral, headBytes, Room, Wrote, Pushed, Asked, Put};
 use table::nodes::node_at;
 
 // How many digits the plain decimal of a number has.
@@ -73,10 +71,11 @@ pub fn text_length(t: &[u16], count: usize) -> usize
     total
 }
 
-// Where writing has come to: the next node, and the next byte of the output.
+// Where writing has come to: the next node, the next byte of the output, and the cells on the stack.
 pub struct Place {
     pub node: usize,
     pub byte: usize,
+    pub cells: usize,
 }
 
 // One byte.
@@ -133,68 +132,120 @@ fn put_head(out: &mut [u8], to: usize, kind: u16, number: u16) -> usize
     byte
 }
 
-// The program at a node, in brackets.
-fn put_program(t: &[u16], at: usize, out: &mut [u8], to: usize) -> Place
-    requires { ⌜ Asked {s = program} whole (now t) at (now out) to ⌝ }
-    ensures { λ r. ⌜ Put {s = program} whole (now (t .entry)) at (now (out .entry)) (now (out .exit)) to (r .node) (r .byte) ⌝ }
+// Cells of the stack, each a piece of the text that is still to be written. The term at the next node.
+const TERM: u16 = 0;
+
+// The rest of a program, from the next node on, with its closing bracket.
+const REST: u16 = 1;
+
+// A closing bracket.
+const CLOSE: u16 = 2;
+
+// One cell on top.
+fn push(stack: &mut [u16], cells: usize, cell: u16) -> usize
+    requires { ⌜ cells < length (now stack) ⌝ }
+    ensures { λ r. ⌜ Pushed (now (stack .entry)) (now (stack .exit)) cells r cell ⌝ }
 {
-    let mut node = at;
-    let mut byte = put(out, to, 40);
-    loop {
-        let n = node_at(t, node);
-        if n.kind == 0 {
-            return Place {
-                node: node + 1,
-                byte: put(out, byte, 41),
-            };
-        }
-        let p = put_term(t, node + 1, out, byte);
-        node = p.node;
-        byte = p.byte;
-    }
+    stack[cells] = cell;
+    cells + 1
 }
 
-// The term at a node.
-fn put_term(t: &[u16], at: usize, out: &mut [u8], to: usize) -> Place
-    requires { ⌜ Asked {s = term} whole (now t) at (now out) to ⌝ }
-    ensures { λ r. ⌜ Put {s = term} whole (now (t .entry)) at (now (out .entry)) (now (out .exit)) to (r .node) (r .byte) ⌝ }
+// A term: what it begins with; its parts and its closing bracket go on the stack, the first part on top.
+fn put_term(
+    t: &[u16],
+    at: usize,
+    out: &mut [u8],
+    to: usize,
+    stack: &mut [u16],
+    cells: usize,
+) -> Place
+    requires { ⌜ Asked 0 (now t) at (now out) to (now stack) cells ⌝ }
+    ensures { λ r. ⌜ Put 0 (now (t .entry)) at (now (out .entry)) to (now (stack .entry)) cells (now (out .exit)) (now (stack .exit)) (r .node) (r .byte) (r .cells) ⌝ }
 {
     let n = node_at(t, at);
+    let node = at + 1;
     let byte = put_head(out, to, n.kind, n.number);
-    let p = put_parts(t, n.kind, at, out, byte);
-    Place {
-        node: p.node,
-        byte: put(out, p.byte, 41),
-    }
-}
-
-// The parts of the term at a node of the kind k.
-fn put_parts(t: &[u16], k: u16, at: usize, out: &mut [u8], to: usize) -> Place
-    requires { ⌜ k ≡ kindAt (now t) at ⌝ }
-    requires { ⌜ Asked inner (now t) at (now out) to ⌝ }
-    ensures { λ r. ⌜ Put inner (now (t .entry)) at (now (out .entry)) (now (out .exit)) to (r .node) (r .byte) ⌝ }
-{
-    let next = at + 1;
-    if k < 5 {
+    if n.kind < 5 {
         return Place {
-            node: next,
-            byte: to,
+            node: node,
+            byte: put(out, byte, 41),
+            cells: cells,
         };
     }
-    if k < 7 {
-        return put_program(t, next, out, to);
+    let close = push(stack, cells, CLOSE);
+    if n.kind < 7 {
+        return Place {
+            node: node,
+            byte: put(out, byte, 40),
+            cells: push(stack, close, REST),
+        };
     }
-    if k == 8 {
-        return put_term(t, next, out, to);
+    let last = push(stack, close, TERM);
+    if n.kind == 8 {
+        return Place {
+            node: node,
+            byte: byte,
+            cells: last,
+        };
     }
-    let p = put_term(t, next, out, to);
-    put_term(t, p.node, out, p.byte)
+    Place {
+        node: node,
+        byte: byte,
+        cells: push(stack, last, TERM),
+    }
 }
 
-// The text of the program at the front of a table, at the front of the output.
-pub fn put_text(t: &[u16], out: &mut [u8])
+// The piece whose cell was on top.
+fn put_piece(
+    t: &[u16],
+    cell: u16,
+    at: usize,
+    out: &mut [u8],
+    to: usize,
+    stack: &mut [u16],
+    cells: usize,
+) -> Place
+    requires { ⌜ Asked cell (now t) at (now out) to (now stack) cells ⌝ }
+    ensures { λ r. ⌜ Put cell (now (t .entry)) at (now (out .entry)) to (now (stack .entry)) cells (now (out .exit)) (now (stack .exit)) (r .node) (r .byte) (r .cells) ⌝ }
+{
+    if cell == TERM {
+        return put_term(t, at, out, to, stack, cells);
+    }
+    if cell == CLOSE {
+        return Place {
+            node: at,
+            byte: put(out, to, 41),
+            cells: cells,
+        };
+    }
+    let n = node_at(t, at);
+    let next = at + 1;
+    if n.kind == 0 {
+        return Place {
+            node: next,
+            byte: put(out, to, 41),
+            cells: cells,
+        };
+    }
+    let rest = push(stack, cells, REST);
+    put_term(t, next, out, to, stack, rest)
+}
+
+// The text of the program at the front of a table, at the front of the output. The stack is lent: what it holds afterwards says nothing.
+pub fn put_text(t: &[u16], out: &mut [u8], stack: &mut [u16])
     requires { ⌜ RoomForText (now t) (now out) ⌝ }
+    requires { ⌜ CellsForText (now t) (now stack) ⌝ }
     ensures { λ _. ⌜ TextWritten (now (t .entry)) (now (out .entry)) (now (out .exit)) ⌝ }
 {
-    put_program(t, 0, out, 0);
+    let mut node: usize = 0;
+    let mut byte = put(out, 0, 40);
+    let mut cells = push(stack, 0, REST);
+    while 0 < cells {
+        let top = cells - 1;
+        let cell = stack[top];
+        let p = put_piece(t, cell, node, out, byte, stack, top);
+        node = p.node;
+        byte = p.byte;
+        cells = p.cells;
+    }
 }

@@ -2,7 +2,7 @@
 use native.Mathlib.Omega.{arith}
 use borrow.Author.Needs.{needs}
 use Rattle.table.proofs.Verdicts.{AdmittedIn, admitted-there}
-use Rattle.text.proofs.Stored.{in-force-is, write-refused, counted, write-no-room, write-room, write-written}
+use Rattle.text.proofs.Stored.{in-force-is, write-refused, counted, write-no-room, write-room, write-cells, write-written}
 use Rattle.text.proofs.store.write.Statement.{statement}
 use Rattle.text.proofs.store.write.Tie as tie
 
@@ -32,7 +32,10 @@ returns : tie.Need-returns
 returns c = let d = c .before in write-no-room (admitted-in (d .before)) (d .text-length .ensures) (omega arith)
 
 put-text-requires : tie.Need-put-text-requires
-put-text-requires c κs = let d = c .before .before in write-room (admitted-in (d .before)) (d .text-length .ensures) (omega arith)
+put-text-requires c κs =
+    let d = c .before .before .before in
+    let a = admitted-in (d .before) in
+    (write-room a (d .text-length .ensures) (omega arith), write-cells a _ (omega arith))
 
 same-length-2 : tie.Need-same-length-2
 same-length-2 c = search needs
@@ -50,7 +53,7 @@ same-length-4 : tie.Need-same-length-4
 same-length-4 c = search needs
 
 returns-3 : tie.Need-returns-3
-returns-3 c = let e = c .before .before in let d = e .before .before .before in write-written (admitted-in (d .before)) (d .text-length .ensures) (omega arith) (e .put-text .ensures)
+returns-3 c = let e = c .before .before .before .before in let d = e .before .before .before .before in write-written (admitted-in (d .before)) (d .text-length .ensures) (omega arith) (e .put-text .ensures)
 
 pub write-spec : {M : Type 1} → statement M
 write-spec =
