@@ -19,7 +19,8 @@ use Rattle.promises.proofs.Admitted.{number-positive}
 use Rattle.promises.proofs.Worked.{good-writes}
 use Rattle.leaf.specs.Reported.{longest}
 use Rattle.leaf.specs.Written.{reasonAtom, startBytes, HoldsGood, EndWritten}
-use Rattle.leaf.proofs.Stores.{wrote-more, lent, given-back, lent-length, part-wrote}
+use Rattle.text.proofs.Written.{wrote-more}
+use Rattle.leaf.proofs.Stores.{lent, given-back, lent-length, part-wrote}
 use Rattle.leaf.proofs.Shapes.{number-small, numeral-length, reason-length, refused-head, refusal-is, report-is}
 
 -- A refusal: behind its atom its number, behind that the closing bracket.

@@ -8,14 +8,7 @@ use lib.ListN.{length, getD, take, drop, set, length-append, length-set, length-
 use lib.Seq.{sets, sets-eq, take-suc, take-all, length-take-le, length-sets, drop-drop}
 use Rattle.calculus.specs.Calls.{front}
 use Rattle.text.specs.Writer.{Room, Wrote}
-
-sets-append : (l : List ℕ) (i : ℕ) (a b : List ℕ) → sets l i (a ++ b) ≡ sets (sets l i a) (i + length a) b
-sets-append l i [] b = ap (λ (j : ℕ). sets l j b) (omega arith)
-sets-append l i (x ∷ a) b = sets-append (set l i x) (suc i) a b ∙ ap (λ (j : ℕ). sets (sets (set l i x) (suc i) a) j b) (omega arith)
-
--- more is written behind it
-pub wrote-more : {out mid after : List ℕ} {to m n : ℕ} {a b : List ℕ} → Wrote out mid to m a → Wrote mid after m n b → Wrote out after to n (a ++ b)
-wrote-more {out} {to} {a} {b} h g = record { is = cc (sets-append out to a b, h .is, h .next-is, g .is); same-length = omega arith; next-is = omega (arith, length-append a b) }
+use Rattle.text.proofs.Written.{sets-append}
 
 -- While bytes are written one by one: the first i of them stand there.
 pub record Filling (out₀ : List ℕ) (to : ℕ) (b out : List ℕ) (i : ℕ) : Type 0 where
