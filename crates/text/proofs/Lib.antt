@@ -3,6 +3,7 @@ pub mod Written
 pub mod Lengths
 pub mod Decimals
 pub mod Grammar
+pub mod Stacks
 pub mod Descents
 pub mod RoundTrip
 pub mod Stored
