@@ -162,10 +162,6 @@ keep-loose k v w h = record { count = h .count; bad-so-far = h .bad-so-far; loos
 -- Where a descent leads.
 
 module _ {n : ℕ} {s : List ℕ} where
-  -- out stays out
-  out-reads : {gs : List Goal} {x : Descent} {b b' : List ℕ} → x ≡ Out → Reads n s gs x b Out b'
-  out-reads e = record { then-on = λ hs z end l. rw e l }
-
   -- nothing that the goal can be stands there
   refused : {g : Goal} {gs : List Goal} {c : Cursor} {m : Met} {b b' : List ℕ} → ((a : Fill g) (r : List ℕ) → drop (c .at) s ≡ spelled g a ++ r → ⊥) → Reads n s (g ∷ gs) (To c m) b Out b'
   refused {g} {gs} f = record { then-on = λ hs z end l. rw l (λ a r h. f (a .0) (spelled-all (gs ++ hs) (a .1) ++ r) (h ∙ append-assoc (spelled g (a .0)) (spelled-all (gs ++ hs) (a .1)) r)) }
@@ -181,10 +177,6 @@ module _ {n : ℕ} {s : List ℕ} where
         here = here ∙ ap (λ (q : List ℕ). spelled g a ++ q) (l .here) ∙ sym (append-assoc (spelled g a) (spelled-all hs (l .fills)) (drop (c'' .at) s));
         kept = λ w h. rw (← followed-assoc) (l .kept (followed w (noted n g a)) (k w h));
       }
-
-  -- some goals and then others
-  and-then : {gs hs : List Goal} {x y z : Descent} {b b' b'' : List ℕ} → Reads n s gs x b y b' → Reads n s hs y b' z b'' → Reads n s (gs ++ hs) x b z b''
-  and-then {gs} {hs} {x} {y} {z} {b} {b'} {b''} p q = record { then-on = λ ks u end l. rw (append-assoc gs hs ks) (p .then-on (hs ++ ks) u end (q .then-on ks u end l)) }
 
 -- a node's kind takes nothing of the text
 node-reads : {n : ℕ} {s : List ℕ} {k : ℕ} {c : Cursor} {m m' : Met} {b b' : List ℕ} → Noted k 0 m b m' b' → Reads n s (kind k ∷ []) (To c m) b (To c m') b'
@@ -220,21 +212,6 @@ ahead-out e c m f = impossible (cc)
 
 ahead-less : {s : List ℕ} {j k : ℕ} {x : Descent} → j ≤ k → Ahead s k x → Ahead s j x
 ahead-less h f c m e = let g = f c m e in omega arith
-
--- One descent after another.
-
-module _ {n : ℕ} {s : List ℕ} {gs : List Goal} {c : Cursor} {m : Met} {b : List ℕ} where
-  -- behind the goals gs, others
-  pub descends-then : {hs : List Goal} {c' : Cursor} {m' : Met} {b' b'' : List ℕ} {y z : Descent} → Descends n s gs c m b y b' → y ≡ To c' m' → Descends n s hs c' m' b' z b'' → Descends n s (gs ++ hs) c m b z b''
-  descends-then {c'} {m'} p e q = let h = p .ahead c' m' e in record { reads = and-then (p .reads) (rw e (q .reads)); ahead = ahead-less (omega arith) (q .ahead) }
-
-  -- out, whatever was to follow
-  pub descends-out : (hs : List Goal) {b' b'' : List ℕ} {y : Descent} → Descends n s gs c m b y b' → y ≡ Out → Descends n s (gs ++ hs) c m b Out b''
-  descends-out hs p e = record { reads = and-then (p .reads) (out-reads e); ahead = ahead-out refl }
-
-  -- a node before the goals gs
-  pub noted-then : {k : ℕ} {m' : Met} {b' b'' : List ℕ} {y : Descent} → Noted k 0 m b m' b' → Descends n s gs c m' b' y b'' → Descends n s (kind k ∷ gs) c m b y b''
-  noted-then o q = record { reads = and-then (node-reads o) (q .reads); ahead = q .ahead }
 
 -- The next goal.
 

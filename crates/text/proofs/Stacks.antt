@@ -5,7 +5,7 @@ use mathlib.Core.List.{List, [], _∷_, _++_}
 use Prim.Native.Nat.{ℕ, zero, suc, _+_, _-_, _≤_, _<_}
 use native.Mathlib.Numerals.{add-one}
 use native.Mathlib.Omega.{arith}
-use lib.ListN.{length, getD, set, drop, length-append, length-drop, List·getD-eq-default}
+use lib.ListN.{length, getD, set, drop, length-drop, List·getD-eq-default}
 use lib.Seq.{drop-cons, drop-set-lt, getD-set-same, lt-length-set}
 use Rattle.calculus.specs.Sexp.{atom, bytes}
 use Rattle.calculus.specs.Tree.{Pair}

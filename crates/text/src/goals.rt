@@ -1,5 +1,5 @@
 // What is still to be read: a lent stack of goals, a byte each, which grows down from the end of its slice.
-// A descent by calls would take machine stack for each level of a text, which the stranger who wrote it chooses.
+// A descent by calls takes machine stack for each level of a text, and a text has thousands.
 ghost use Prim.Native.Nat.{_+_, _<_, _≤_};
 ghost use lib.ListN.{length};
 ghost use Rattle.text.specs.Descent.{Announces, Pushes};
@@ -13,7 +13,7 @@ pub const OPEN: u8 = 2;
 
 pub const CLOSE: u8 = 3;
 
-pub const END: u8 = 4;
+pub const CLOSE_BINDER: u8 = 4;
 
 // Where the next goal stands, and the binders around it: as many as the goals that end one.
 pub struct Waiting {
@@ -37,34 +37,34 @@ pub fn announced(tag: u8, w: Waiting, goals: &mut [u8]) -> Waiting
     ensures { λ r. ⌜ Announces tag w (now (goals .entry)) r (now (goals .exit)) ⌝ }
 {
     let top = w.top;
-    let d = w.binders;
+    let inside = w.binders + 1;
     // v, x and c; l and L; n; a, g and u
     match tag {
         118 | 120 | 99 => Waiting {
             top: push(goals, top, CLOSE),
-            binders: d,
+            binders: w.binders,
         },
         108 | 76 => {
-            let last = push(goals, top, END);
-            let members = push(goals, last, MEMBERS);
+            let third = push(goals, top, CLOSE_BINDER);
+            let second = push(goals, third, MEMBERS);
             Waiting {
-                top: push(goals, members, OPEN),
-                binders: d + 1,
+                top: push(goals, second, OPEN),
+                binders: inside,
             }
         }
         110 => {
-            let last = push(goals, top, END);
+            let second = push(goals, top, CLOSE_BINDER);
             Waiting {
-                top: push(goals, last, TERM),
-                binders: d + 1,
+                top: push(goals, second, TERM),
+                binders: inside,
             }
         }
         _ => {
-            let last = push(goals, top, CLOSE);
-            let second = push(goals, last, TERM);
+            let third = push(goals, top, CLOSE);
+            let second = push(goals, third, TERM);
             Waiting {
                 top: push(goals, second, TERM),
-                binders: d,
+                binders: w.binders,
             }
         }
     }

@@ -4,6 +4,9 @@ use Rattle.text.proofs.Stacks.{announce-leaf, announce-fresh, announce-
 use Rattle.text.proofs.goals.announced.Statement.{statement}
 use Rattle.text.proofs.goals.announced.Tie as tie
 
+add-inside : tie.Need-add-inside
+add-inside c = search needs
+
 push-requires : tie.Need-push-requires
 push-requires c κs = search needs
 
@@ -16,17 +19,11 @@ push-requires-3 c κs = search needs
 push-requires-4 : tie.Need-push-requires-4
 push-requires-4 c κs = search needs
 
-add-t22 : tie.Need-add-t22
-add-t22 c = search needs
-
 push-requires-5 : tie.Need-push-requires-5
 push-requires-5 c κs = search needs
 
 push-requires-6 : tie.Need-push-requires-6
 push-requires-6 c κs = search needs
-
-add-t28 : tie.Need-add-t28
-add-t28 c = search needs
 
 push-requires-7 : tie.Need-push-requires-7
 push-requires-7 c κs = search needs
@@ -65,14 +62,13 @@ pub announced-spec : {M : Type 1} → statement M
 announced-spec =
     tie.close
     (tie.spec
+    add-inside
     push-requires
     push-requires-2
     push-requires-3
     push-requires-4
-    add-t22
     push-requires-5
     push-requires-6
-    add-t28
     push-requires-7
     push-requires-8
     push-requires-9
