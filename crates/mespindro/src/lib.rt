@@ -19,7 +19,8 @@ pub fn read(text: &[u8], out: &mut [u16]) -> Counted
 {
     let mut build = [0u16; 4096];
     let mut scratch = [0u16; 2050];
-    text::read::read(text, out, LIMIT, &mut build, &mut scratch)
+    let mut goals = [0u8; 24578];
+    text::read::read(text, out, LIMIT, &mut build, &mut scratch, &mut goals)
 }
 
 // Writes the text of the program in a table: its bytes at the front of the output, or 1, 6, 8, 9.

@@ -2,7 +2,7 @@
 use mathlib.Core.Path.{_≡_, refl, sym, ap, _∙_}
 use mathlib.Core.Bool.{Bool, true, false, _&&_, or-false, or-true}
 use mathlib.Core.List.{List, [], _∷_, _++_, append-assoc, append-nil, tail-eq-of-cons-eq}
-use Prim.Native.Nat.{ℕ, _+_, _*_, _/_, _≤_, _<_}
+use Prim.Native.Nat.{ℕ, _+_, _-_, _*_, _/_, _≤_, _<_}
 use native.Mathlib.Omega.{arith}
 use lib.Dec.{eqb, leb}
 use borrow.Author.Tests.{eqb-true, le-leb, lt-leb}
@@ -10,6 +10,7 @@ use lib.ListN.{length, getD, take, drop, length-append, length-drop}
 use lib.Seq.{append-snoc, drop-cons, drop-length, sets, sets-eq, length-sets, length-take-le, take-at}
 use Rattle.calculus.specs.Sexp.{atom, list, nothing, bytes}
 use Rattle.calculus.specs.Tree.{program, Tree, nodes}
+use Rattle.calculus.specs.Good.{constructors}
 use Rattle.calculus.specs.Calls.{TextOf}
 use Rattle.calculus.specs.Text.{Raw, raw-empty, encode, raw, raw-text, text}
 use Rattle.calculus.proofs.Decimals.{decimal-first}
@@ -23,13 +24,19 @@ use Rattle.csexp.specs.Items.{opening, closing, of-atom, Begins, itemBytes}
 use Rattle.csexp.proofs.Closings.{Took}
 use Rattle.text.specs.declared.numbers.Number.the-variants.{Bad, Is}
 use Rattle.text.specs.Numbers.{NumberIs}
+use Rattle.text.specs.declared.items.Found.{Found}
+use Rattle.text.specs.declared.items.Found.the-variants.{No as No-found, Behind}
+use Rattle.text.specs.declared.goals.Waiting.{Waiting}
 use Rattle.text.specs.declared.parse.Met.{Met}
 use Rattle.text.specs.declared.parse.Descent.{Descent}
 use Rattle.text.specs.declared.parse.Descent.the-variants.{Out, To}
+use Rattle.text.specs.declared.parse.Turn.{Turn}
+use Rattle.text.specs.declared.parse.Turn.the-variants.{Out as Out-turn, To as To-turn}
 use Rattle.text.specs.declared.Parsed.the-variants.{Out as Parsed-out, Bad as Parsed-bad, Loose, Nodes}
 use Rattle.text.specs.Reading.{Parses, out, bad, loose, of-nodes}
-use Rattle.text.specs.Descent.{Between, AtomBetween, Note, no-node, node-note, followed, number-note, note, Keeps, Noted, Goal, kind, number, bracket, one-term, members, Fill, spelled, noted, Fills, spelled-all, noted-all, Passes, Leads, Reads, Beyond, Ahead, Ready, Descends, Closes}
-use Rattle.text.proofs.Grammar.{Row, tag, parts, tag-injective, followed-assoc, followed-none, followed-end, term-of, term-spelled, term-noted, made, tagged, program-of, program-spelled, program-noted, member, note-read, note-unread, Told, told, treed}
+use Rattle.text.specs.Descent.{Between, AtomBetween, Note, no-node, node-note, followed, number-note, note, Keeps, Noted, Goal, kind, number, bracket, one-term, members, Fill, spelled, noted, Fills, spelled-all, noted-all, Passes, Leads, Reads, Beyond, Ahead, Descends, Row, tag, node-of, Heads, row, no-row, ends, waiting, cells-of, Pushes, Announces, Stacked, Stands, Ready, Tops, Follows, Advances, FoundAt, passed as passed-bracket}
+use Rattle.text.proofs.Grammar.{parts, tag-injective, followed-assoc, followed-none, followed-end, term-of, term-spelled, term-noted, made, tagged, program-of, program-spelled, program-noted, member, note-read, note-unread, Told, told, treed}
+use Rattle.text.proofs.Stacks.{next-goal, next-end, tag-long, announced-parts}
 
 impossible : {A : Type 0} → _≡_ {A = ℕ} 0 1 → A
 impossible e = absurd (omega arith)
@@ -155,10 +162,6 @@ keep-loose k v w h = record { count = h .count; bad-so-far = h .bad-so-far; loos
 -- Where a descent leads.
 
 module _ {n : ℕ} {s : List ℕ} where
-  -- out stays out
-  out-reads : {gs : List Goal} {x : Descent} {b b' : List ℕ} → x ≡ Out → Reads n s gs x b Out b'
-  out-reads e = record { then-on = λ hs z end l. rw e l }
-
   -- nothing that the goal can be stands there
   refused : {g : Goal} {gs : List Goal} {c : Cursor} {m : Met} {b b' : List ℕ} → ((a : Fill g) (r : List ℕ) → drop (c .at) s ≡ spelled g a ++ r → ⊥) → Reads n s (g ∷ gs) (To c m) b Out b'
   refused {g} {gs} f = record { then-on = λ hs z end l. rw l (λ a r h. f (a .0) (spelled-all (gs ++ hs) (a .1) ++ r) (h ∙ append-assoc (spelled g (a .0)) (spelled-all (gs ++ hs) (a .1)) r)) }
@@ -174,10 +177,6 @@ module _ {n : ℕ} {s : List ℕ} where
         here = here ∙ ap (λ (q : List ℕ). spelled g a ++ q) (l .here) ∙ sym (append-assoc (spelled g a) (spelled-all hs (l .fills)) (drop (c'' .at) s));
         kept = λ w h. rw (← followed-assoc) (l .kept (followed w (noted n g a)) (k w h));
       }
-
-  -- some goals and then others
-  and-then : {gs hs : List Goal} {x y z : Descent} {b b' b'' : List ℕ} → Reads n s gs x b y b' → Reads n s hs y b' z b'' → Reads n s (gs ++ hs) x b z b''
-  and-then {gs} {hs} {x} {y} {z} {b} {b'} {b''} p q = record { then-on = λ ks u end l. rw (append-assoc gs hs ks) (p .then-on (hs ++ ks) u end (q .then-on ks u end l)) }
 
 -- a node's kind takes nothing of the text
 node-reads : {n : ℕ} {s : List ℕ} {k : ℕ} {c : Cursor} {m m' : Met} {b b' : List ℕ} → Noted k 0 m b m' b' → Reads n s (kind k ∷ []) (To c m) b (To c m') b'
@@ -214,119 +213,196 @@ ahead-out e c m f = impossible (cc)
 ahead-less : {s : List ℕ} {j k : ℕ} {x : Descent} → j ≤ k → Ahead s k x → Ahead s j x
 ahead-less h f c m e = let g = f c m e in omega arith
 
--- One descent after another.
+-- The next goal.
 
-module _ {n : ℕ} {s : List ℕ} {gs : List Goal} {c : Cursor} {m : Met} {b : List ℕ} where
-  -- behind the goals gs, others
-  pub descends-then : {hs : List Goal} {c' : Cursor} {m' : Met} {b' b'' : List ℕ} {y z : Descent} → Descends n s gs c m b y b' → y ≡ To c' m' → Descends n s hs c' m' b' z b'' → Descends n s (gs ++ hs) c m b z b''
-  descends-then {c'} {m'} p e q = let h = p .ahead c' m' e in record { reads = and-then (p .reads) (rw e (q .reads)); ahead = ahead-less (omega arith) (q .ahead) }
+-- out
+out-ahead : {s cells : List ℕ} {k : ℕ} (c : Cursor) (m : Met) (w : Waiting) → Out-turn ≡ To-turn c m w → Beyond s k (c .at) (m .nodes) × Stacked cells (c .at) w
+out-ahead c m w e = impossible (cc)
 
-  -- out, whatever was to follow
-  pub descends-out : (hs : List Goal) {b' b'' : List ℕ} {y : Descent} → Descends n s gs c m b y b' → y ≡ Out → Descends n s (gs ++ hs) c m b Out b''
-  descends-out hs p e = record { reads = and-then (p .reads) (out-reads e); ahead = ahead-out refl }
+-- a place, with what waits there
+turn-ahead : {s cells : List ℕ} {k : ℕ} {c : Cursor} {m : Met} {w : Waiting} → Beyond s k (c .at) (m .nodes) → Stacked cells (c .at) w → (c' : Cursor) (m' : Met) (w' : Waiting) → To-turn c m w ≡ To-turn c' m' w' → Beyond s k (c' .at) (m' .nodes) × Stacked cells (c' .at) w'
+turn-ahead {c} {m} {w} h g c' m' w' e =
+    let p : c ≡ c' = cc in
+    let q : m ≡ m' = cc in
+    let r : w ≡ w' = cc in
+    rw (← p, ← q, ← r) (h, g)
 
-  -- a node before the goals gs
-  pub noted-then : {k : ℕ} {m' : Met} {b' b'' : List ℕ} {y : Descent} → Noted k 0 m b m' b' → Descends n s gs c m' b' y b'' → Descends n s (kind k ∷ gs) c m b y b''
-  noted-then o q = record { reads = and-then (node-reads o) (q .reads); ahead = q .ahead }
+-- goals that are read, before those that wait
+then-wait : {n : ℕ} {s : List ℕ} {gs : List Goal} {x y : Descent} {b b' : List ℕ} → Reads n s gs x b y b' → (hs : List Goal) → Follows n s (gs ++ hs) x b hs y b'
+then-wait r hs = record { then-on = r .then-on hs }
 
--- A closing bracket.
+-- out, whatever waits
+out-waits : {n : ℕ} {s : List ℕ} {gs : List Goal} {x : Descent} {b b' : List ℕ} → Reads n s gs x b Out b' → (hs : List Goal) → Follows n s (gs ++ hs) x b [] Out b'
+out-waits r hs = record { then-on = r .then-on hs }
 
--- already out
-pub closed-out : {s : List ℕ} {x : Descent} → x ≡ Out → Closes s x Out
-closed-out e = record { reads = λ n b. out-reads e; ahead = λ k h. ahead-out refl }
+-- one turn after another
+follows-on : {n : ℕ} {s : List ℕ} {gs hs ks : List Goal} {x y z : Descent} {b b' b'' : List ℕ} → Follows n s gs x b hs y b' → Follows n s hs y b' ks z b'' → Follows n s gs x b ks z b''
+follows-on p q = record { then-on = λ u end l. p .then-on u end (q .then-on u end l) }
 
-module _ {s : List ℕ} {c : Cursor} {m : Met} where
-  -- none is there
-  pub closed-not : ((r : List ℕ) → drop (c .at) s ≡ 41 ∷ r → ⊥) → Closes s (To c m) Out
-  closed-not f = record { reads = λ n b. refused (λ a. f); ahead = λ k h. ahead-out refl }
+-- A bracket.
 
-  -- behind it
-  pub closed-to : {next : Cursor} → Between s (c .at) (next .at) (41 ∷ []) → Closes s (To c m) (To next m)
-  closed-to h = record { reads = λ n b. passed tt (h .here) (λ a r q e. tail-eq-of-cons-eq e) (λ w k. rw followed-end k); ahead = λ k f. let g = f c m refl in ahead-to (omega (arith, h)) }
+module _ {n : ℕ} {s : List ℕ} {k : ℕ} {c : Cursor} {m : Met} {b : List ℕ} where
+  bracket-out : {b' : List ℕ} → ((r : List ℕ) → drop (c .at) s ≡ k ∷ r → ⊥) → Reads n s (bracket k ∷ []) (To c m) b Out b'
+  bracket-out f = refused (λ a. f)
+
+  bracket-reads : {c' : Cursor} → Between s (c .at) (c' .at) (k ∷ []) → Reads n s (bracket k ∷ []) (To c m) b (To c' m) b
+  bracket-reads h = passed tt (h .here) (λ a r t e. tail-eq-of-cons-eq e) (λ v g. rw followed-end g)
+
+-- it is passed, or is not there
+pub bracket-turn : {n : ℕ} {s : List ℕ} {k : ℕ} {c : Cursor} {m : Met} {b cells : List ℕ} {w : Waiting} (f : Found) → FoundAt k s (c .at) f → Beyond s 0 (c .at) (m .nodes) → Stacked cells (c .at) w → Advances n s (bracket k ∷ waiting (drop (w .top) cells)) c m b (passed-bracket f m w) b cells
+bracket-turn {cells} {w} No-found h p q = record { follows = out-waits (bracket-out h) (waiting (drop (w .top) cells)); ahead = out-ahead }
+bracket-turn {cells} {w} (Behind c') h p q = record { follows = then-wait (bracket-reads h) (waiting (drop (w .top) cells)); ahead = turn-ahead (omega arith) (record { on = q .on; room = omega arith; binds = q .binds }) }
 
 -- Terms.
 
--- behind a tag that was read: the parts of its row lead from there to y; or no row has it
-pub data Branch (n : ℕ) (s : List ℕ) (d k : ℕ) (c : Cursor) (m : Met) (b : List ℕ) (y : Descent) (b' : List ℕ) : Type 0 where
-  row : (x : Row) → k ≡ tag x → Descends n s (parts n d x) c m b y b' → Branch n s d k c m b y b'
-  no-row : ((x : Row) → k ≡ tag x → ⊥) → y ≡ Out → Branch n s d k c m b y b'
+-- no tag, no term
+pub term-none : {n : ℕ} {s : List ℕ} {d : ℕ} {hs : List Goal} {c : Cursor} {m : Met} {b b' cells : List ℕ} → ((k : ℕ) (r : List ℕ) → drop (c .at) s ≡ 40 ∷ bytes (atom (k ∷ [])) ++ r → ⊥) → Advances n s (one-term d ∷ hs) c m b Out-turn b' cells
+term-none {n} {d} {hs} f = record { follows = record { then-on = λ z end l. rw l (λ g r e. let t = made n d hs g r in f (tag (t .row)) _ (e ∙ t .is)) }; ahead = out-ahead }
 
-branch-ahead : {n : ℕ} {s : List ℕ} {d k j : ℕ} {c : Cursor} {m : Met} {b : List ℕ} {y : Descent} {b' : List ℕ} → Branch n s d k c m b y b' → j ≤ c .at → Ahead s j y
-branch-ahead (row x e r) h = ahead-less (omega arith) (r .ahead)
-branch-ahead (no-row f e) h = ahead-out e
+module _ {n : ℕ} {s : List ℕ} {k : ℕ} {c c' : Cursor} (t : Between s (c .at) (c' .at) (40 ∷ bytes (atom (k ∷ [])))) where
+  -- behind the tag its row is to be read, and the closing bracket
+  row-turns : (d : ℕ) (hs : List Goal) (x : Row) → k ≡ tag x → Turns n s (one-term d ∷ hs) (parts n d x ++ (bracket 41 ∷ hs)) c c'
+  row-turns d hs x e = record {
+    before = 40 ∷ bytes (atom (k ∷ []));
+    here = t .here;
+    make = term-of n d hs x;
+    spell = λ f. rw e (term-spelled n d hs x f);
+    tell = term-noted n d hs x;
+    back = λ f q h.
+        let g = tagged n d hs k (drop (c' .at) s) q f (sym (t .here) ∙ h) in
+        rw (tag-injective x (g .row) (sym e ∙ g .is)) (g .behind, g .rest);
+  }
 
-module _ {n : ℕ} {s : List ℕ} {d : ℕ} {c : Cursor} {m : Met} {b b' : List ℕ} where
-  -- no tag, no term
-  pub term-out : ((k : ℕ) (r : List ℕ) → drop (c .at) s ≡ 40 ∷ bytes (atom (k ∷ [])) ++ r → ⊥) → Descends n s (one-term d ∷ []) c m b Out b'
-  term-out f = record { reads = record { then-on = λ hs z end l. rw l (λ g r e. let t = made n d hs g r in f (tag (t .row)) _ (e ∙ t .is)) }; ahead = ahead-out refl }
+  module _ {m : Met} {b : List ℕ} where
+    -- the row's node, before what it announces
+    row-follows : (cells : List ℕ) (x : Row) → k ≡ tag x → Follows n s (one-term (ends cells) ∷ waiting cells) (To c m) b (node-of n (ends cells) x ∷ waiting (cells-of x ++ cells)) (To c' m) b
+    row-follows cells x e = rw (announced-parts n x cells) (record { then-on = turned (row-turns (ends cells) (waiting cells) x e) m b })
 
-  -- the term is that of the row, with its closing bracket
-  module _ {k : ℕ} {c' : Cursor} (t : Between s (c .at) (c' .at) (40 ∷ bytes (atom (k ∷ [])))) {y z : Descent} (l : Closes s y z) where
-    term-reads : Branch n s d k c' m b y b' → Reads n s (one-term d ∷ []) (To c m) b z b'
-    term-reads (row x e r) = record { then-on = λ hs u end g. turned (turns hs) m b u end (rw append-assoc at (and-then (r .reads) (l .reads n b') .then-on hs u end g)) }
-      where
-        turns : (hs : List Goal) → Turns n s (one-term d ∷ hs) (parts n d x ++ (bracket 41 ∷ hs)) c c'
-        turns hs = record {
-          before = 40 ∷ bytes (atom (k ∷ []));
-          here = t .here;
-          make = term-of n d hs x;
-          spell = λ f. rw e (term-spelled n d hs x f);
-          tell = term-noted n d hs x;
-          back = λ f q h.
-              let g = tagged n d hs k (drop (c' .at) s) q f (sym (t .here) ∙ h) in
-              rw (tag-injective x (g .row) (sym e ∙ g .is)) (g .behind, g .rest);
-        }
-    term-reads (no-row f e) = record {
-      then-on = λ hs u end g.
-          let o : u ≡ Out = rw e at (l .reads n b' .then-on hs u end g) in
-          rw o (λ a r h. let w = tagged n d hs k (drop (c' .at) s) r a (sym (t .here) ∙ h) in f (w .row) (w .is));
+    module _ {w : Waiting} {y : Descent} {b' cells : List ℕ} (p : Ready n s cells c m w) where
+      -- its node is not there
+      pub term-out : {cells' : List ℕ} → Heads n s (w .binders) k c' m b y b' → y ≡ Out → Advances n s (one-term (w .binders) ∷ waiting (drop (w .top) cells)) c m b Out-turn b' cells'
+      term-out (row x e r a) f =
+          let cs : List ℕ = drop (w .top) cells in
+          record { follows = rw (p .stacked .binds) (follows-on (row-follows cs x e) (out-waits (rw (p .stacked .binds, f) at r) (waiting (cells-of x ++ cs)))); ahead = out-ahead }
+      term-out (no-row h e) f = record {
+        follows = record { then-on = λ z end l. rw l (λ a r q. let v = tagged n (w .binders) (waiting (drop (w .top) cells)) k (drop (c' .at) s) r a (sym (t .here) ∙ q) in h (v .row) (v .is)) };
+        ahead = out-ahead;
+      }
+
+      -- it is, and what the row announces waits then
+      pub term-turn : {w' : Waiting} {c'' : Cursor} {m'' : Met} {cells' : List ℕ} → Heads n s (w .binders) k c' m b y b' → y ≡ To c'' m'' → Announces k w cells w' cells' → length cells' ≡ length cells → Advances n s (one-term (w .binders) ∷ waiting (drop (w .top) cells)) c m b (To-turn c'' m'' w') b' cells'
+      term-turn {c''} {m''} (row x e r a) f g l =
+          let cs : List ℕ = drop (w .top) cells in
+          let h = g .by-row x e in
+          let q = a c'' m'' f in
+          let o = tag-long k t in
+          record {
+            follows = rw (p .stacked .binds, h .here) (follows-on (row-follows cs x e) (then-wait (rw (p .stacked .binds, f) at r) (waiting (cells-of x ++ cs))));
+            ahead = turn-ahead (omega arith) (record { on = omega (arith, p .stacked .on, g .lower); room = omega (arith, p .stacked .room, g .few); binds = h .binds (p .stacked .binds) });
+          }
+      term-turn (no-row h e) f g l = impossible (cc)
+
+module _ {n : ℕ} {s : List ℕ} {d k : ℕ} {c : Cursor} {m : Met} {b b' : List ℕ} where
+  -- a node with its N
+  pub numbered-head : {y : Descent} (x : Row) → k ≡ tag x → Descends n s (node-of n d x ∷ []) c m b y b' → Heads n s d k c m b y b'
+  numbered-head x e r = row x e (r .reads) (ahead-less (omega arith) (r .ahead))
+
+  -- a node without one
+  pub plain-head : {m' : Met} {j : ℕ} (x : Row) → k ≡ tag x → node-of n d x ≡ kind j → m .nodes + 1 ≤ c .at → c .at ≤ length s → Noted j 0 m b m' b' → Heads n s d k c m b (To c m') b'
+  plain-head x e f h g o = row x e (rw f (node-reads o)) (ahead-to (omega (arith, o .one-more)))
+
+-- What waits.
+
+module _ {n : ℕ} {s cells : List ℕ} {c : Cursor} {m : Met} {w : Waiting} (p : Stands n s cells c m w) where
+  -- behind the next goal, which ends no binder
+  rest-binds : {goal : ℕ} → Tops cells (w .top) goal → ends (goal ∷ drop (w .top + 1) cells) ≡ ends (drop (w .top + 1) cells) → w .binders ≡ ends (drop (w .top + 1) cells)
+  rest-binds t e = p .stacked .binds ∙ ap ends (next-goal cells (w .top) t) ∙ e
+
+  rest-stacked : {d : ℕ} → w .top < length cells → d ≡ ends (drop (w .top + 1) cells) → Stacked cells (c .at) (record { top = w .top + 1; binders = d })
+  rest-stacked h e = record { on = omega arith; room = omega (arith, p .stacked .room); binds = e }
+
+  -- a term before what waits behind it
+  pub term-ready : Tops cells (w .top) 0 → Ready n s cells c m (record { top = w .top + 1; binders = w .binders })
+  term-ready t = record { small = p .small; long = p .long; few = omega (arith, p .beyond .few); stacked = rest-stacked (t .on) (rest-binds t refl) }
+
+  module _ {b : List ℕ} where
+    pub next-term : {y : Turn} {b' cells' : List ℕ} → Tops cells (w .top) 0 → Advances n s (one-term (w .binders) ∷ waiting (drop (w .top + 1) cells)) c m b y b' cells' → Advances n s (waiting (drop (w .top) cells)) c m b y b' cells'
+    next-term t a = rw (next-goal cells (w .top) t, ← rest-binds t refl) a
+
+    -- a bracket
+    pub next-open : (f : Found) → Tops cells (w .top) 2 → FoundAt 40 s (c .at) f → Advances n s (waiting (drop (w .top) cells)) c m b (passed-bracket f m (record { top = w .top + 1; binders = w .binders })) b cells
+    next-open f t h = rw (next-goal cells (w .top) t) (bracket-turn f h (p .beyond) (rest-stacked (t .on) (rest-binds t refl)))
+
+    pub next-close : (f : Found) → Tops cells (w .top) 3 → FoundAt 41 s (c .at) f → Advances n s (waiting (drop (w .top) cells)) c m b (passed-bracket f m (record { top = w .top + 1; binders = w .binders })) b cells
+    next-close f t h = rw (next-goal cells (w .top) t) (bracket-turn f h (p .beyond) (rest-stacked (t .on) (rest-binds t refl)))
+
+    -- that ends a binder
+    pub next-end-close : (f : Found) → w .top < length cells → 4 ≤ getD cells (w .top) 0 → FoundAt 41 s (c .at) f → Advances n s (waiting (drop (w .top) cells)) c m b (passed-bracket f m (record { top = w .top + 1; binders = w .binders - 1 })) b cells
+    next-end-close f l g h =
+        let e = next-end cells (w .top) l g in
+        rw (e .0) (bracket-turn f h (p .beyond) (rest-stacked l (omega (arith, p .stacked .binds, e .1))))
+
+    module _ (t : Tops cells (w .top) 1) {m' : Met} {b' : List ℕ} where
+      -- the closing bracket ends the members
+      pub members-end : {c' : Cursor} → Between s (c .at) (c' .at) (41 ∷ []) → Noted 0 0 m b m' b' → Advances n s (waiting (drop (w .top) cells)) c m b (To-turn c' m' (record { top = w .top + 1; binders = w .binders })) b' cells
+      unfolding bytes encode note
+      members-end {c'} h o =
+          let cs : List ℕ = drop (w .top + 1) cells in
+          let e : Reads n s (members (ends cs) ∷ []) (To c m) b (To c' m') b' = passed raw-empty (h .here) (λ a r q e. members-prefix nothing (encode a) r q (e ∙ append-snoc (bytes (encode a)) 41 q) .1) (o .kept) in
+          record { follows = rw (next-goal cells (w .top) t) (then-wait e (waiting cs)); ahead = turn-ahead (omega (arith, p .beyond, o .one-more)) (record { on = omega (arith, t .on); room = omega (arith, p .stacked .room); binds = rest-binds t refl }) }
+
+      -- another member
+      pub members-more : {y : Turn} {b'' cells' : List ℕ} → ((r : List ℕ) → drop (c .at) s ≡ 41 ∷ r → ⊥) → Noted 1 0 m b m' b' → Advances n s (one-term (w .binders) ∷ waiting (drop (w .top) cells)) c m' b' y b'' cells' → Advances n s (waiting (drop (w .top) cells)) c m b y b'' cells'
+      members-more f o a =
+          let cs : List ℕ = drop (w .top + 1) cells in
+          let d : ℕ = ends cs in
+          let hs : List Goal = waiting cs in
+          let turns : Turns n s (members d ∷ hs) (kind 1 ∷ one-term d ∷ members d ∷ hs) c c = record { before = []; here = refl; make = program-of n d hs; spell = program-spelled n d hs; tell = program-noted n d hs; back = λ a r e. member n d hs a (drop (c .at) s) r f e } in
+          let more : Follows n s (members d ∷ hs) (To c m) b (one-term d ∷ members d ∷ hs) (To c m') b' = follows-on (record { then-on = turned turns m b }) (then-wait (node-reads o) (one-term d ∷ members d ∷ hs)) in
+          record { follows = rw (next-goal cells (w .top) t) (follows-on more (rw (rest-binds t refl, next-goal cells (w .top) t) at (a .follows))); ahead = a .ahead }
+
+-- The loop.
+
+-- where what waits leads, the goals gs lead from the place c₀ on
+pub record Looping (n : ℕ) (s : List ℕ) (gs : List Goal) (c₀ : Cursor) (m₀ : Met) (b₀ cells₀ : List ℕ) (c : Cursor) (m : Met) (w : Waiting) (b cells : List ℕ) : Type 0 where
+  pub follows : Follows n s gs (To c₀ m₀) b₀ (waiting (drop (w .top) cells)) (To c m) b
+  pub stands : Stands n s cells c m w
+  pub same-long : length b ≡ length b₀
+  pub same-deep : length cells ≡ length cells₀
+
+-- the whole program waits
+pub loop-start : {n : ℕ} {s : List ℕ} {c : Cursor} {m : Met} {b cells cells₁ cells₂ : List ℕ} {t t₂ : ℕ} → n < constructors → length s + 2 ≤ length cells → Beyond s 0 (c .at) (m .nodes) → Pushes 1 cells (length cells) t cells₁ → Pushes 2 cells₁ t t₂ cells₂ → length cells₂ ≡ length cells → Looping n s (bracket 40 ∷ members 0 ∷ []) c m b cells₂ c m (record { top = t₂; binders = 0 }) b cells₂
+loop-start {cells} {cells₂} {t₂} h g k p q l =
+    let e : drop t₂ cells₂ ≡ 2 ∷ 1 ∷ [] = rw (q .here, p .here, drop-length cells) in
+    record {
+      follows = rw e (record { then-on = λ z end u. u });
+      stands = record { small = h; long = omega arith; beyond = k; stacked = record { on = omega (arith, p .one-less, q .one-less); room = omega (arith, p .one-less, q .one-less); binds = rw e } };
+      same-long = refl;
+      same-deep = refl;
     }
 
-    pub term-descends : Branch n s d k c' m b y b' → Descends n s (one-term d ∷ []) c m b z b'
-    term-descends h = record { reads = term-reads h; ahead = l .ahead (c .at + 1) (branch-ahead h (omega (arith, t .forward))) }
+module _ {n : ℕ} {s : List ℕ} {gs : List Goal} {c₀ : Cursor} {m₀ : Met} {b₀ cells₀ : List ℕ} {c : Cursor} {m : Met} {w : Waiting} {b cells : List ℕ} (l : Looping n s gs c₀ m₀ b₀ cells₀ c m w b cells) where
+  -- nothing waits
+  pub loop-end : w .top ≡ length cells → Follows n s gs (To c₀ m₀) b₀ [] (To c m) b × Ahead s 0 (To c m)
+  loop-end e =
+      let f : drop (w .top) cells ≡ [] = rw (e, drop-length cells) in
+      (rw f at (l .follows), ahead-to (l .stands .beyond))
 
--- Members.
-
--- where the members that are left lead, those from the place c₀ on lead
-pub record Looping (n : ℕ) (s : List ℕ) (d : ℕ) (c₀ : Cursor) (m₀ : Met) (b₀ : List ℕ) (c : Cursor) (m : Met) (b : List ℕ) : Type 0 where
-  pub more : (hs : List Goal) (z : Descent) (end : List ℕ) → Leads n s (members d ∷ hs) (To c m) b z end → Leads n s (members d ∷ hs) (To c₀ m₀) b₀ z end
-  pub same-long : length b ≡ length b₀
-  pub beyond : Beyond s (c₀ .at) (c .at) (m .nodes)
-
--- no member is passed yet
-pub loop-start : {n : ℕ} {s : List ℕ} {d : ℕ} {c c' : Cursor} {m : Met} {b : List ℕ} → Between s (c .at) (c' .at) (40 ∷ []) → Ready n d c m → Looping n s d c' m b c' m b
-loop-start h r = record { more = λ hs z end l. l; same-long = refl; beyond = omega arith }
-
--- behind the opening bracket
-opened : {n : ℕ} {s : List ℕ} {d : ℕ} {c c' : Cursor} {m : Met} {b b' : List ℕ} {y : Descent} → Between s (c .at) (c' .at) (40 ∷ []) → Reads n s (members d ∷ []) (To c' m) b y b' → Reads n s (bracket 40 ∷ members d ∷ []) (To c m) b y b'
-opened h r = and-then (passed tt (h .here) (λ a r q e. tail-eq-of-cons-eq e) (λ w k. rw followed-end k)) r
-
--- no opening bracket, no program
-pub program-none : {n : ℕ} {s : List ℕ} {d : ℕ} {c : Cursor} {m : Met} {b b' : List ℕ} → ((r : List ℕ) → drop (c .at) s ≡ 40 ∷ r → ⊥) → Descends n s (bracket 40 ∷ members d ∷ []) c m b Out b'
-program-none f = record { reads = refused (λ a. f); ahead = ahead-out refl }
-
-module _ {n : ℕ} {s : List ℕ} {d : ℕ} {c₀ : Cursor} {m₀ : Met} {b₀ : List ℕ} {c : Cursor} {m : Met} {b : List ℕ} (l : Looping n s d c₀ m₀ b₀ c m b) {m' : Met} {b' : List ℕ} where
-  -- the closing bracket ends the members
-  pub program-end : {c' c'' : Cursor} → Between s (c'' .at) (c₀ .at) (40 ∷ []) → Between s (c .at) (c' .at) (41 ∷ []) → Noted 0 0 m b m' b' → Descends n s (bracket 40 ∷ members d ∷ []) c'' m₀ b₀ (To c' m') b'
-  unfolding bytes encode note
-  program-end {c'} p h o =
-      let e : Reads n s (members d ∷ []) (To c m) b (To c' m') b' = passed raw-empty (h .here) (λ a r q e. members-prefix nothing (encode a) r q (e ∙ append-snoc (bytes (encode a)) 41 q) .1) (o .kept) in
-      record { reads = opened p (record { then-on = λ hs z end g. l .more hs z end (e .then-on hs z end g) }); ahead = ahead-to (omega (arith, l .beyond, o .one-more)) }
-
-  -- another member
-  module _ (f : (r : List ℕ) → drop (c .at) s ≡ 41 ∷ r → ⊥) (o : Noted 1 0 m b m' b') {y : Descent} {b'' : List ℕ} (t : Descends n s (one-term d ∷ []) c m' b' y b'') where
-    one-more-member : (hs : List Goal) (z : Descent) (end : List ℕ) → Leads n s (members d ∷ hs) y b'' z end → Leads n s (members d ∷ hs) (To c₀ m₀) b₀ z end
-    one-more-member hs z end g =
-        let turns : Turns n s (members d ∷ hs) (kind 1 ∷ one-term d ∷ members d ∷ hs) c c = record { before = []; here = refl; make = program-of n d hs; spell = program-spelled n d hs; tell = program-noted n d hs; back = λ a r e. member n d hs a (drop (c .at) s) r f e } in
-        l .more hs z end (turned turns m b z end (and-then (node-reads o) (t .reads) .then-on (members d ∷ hs) z end g))
-
-    -- it is no term
-    pub program-out : {c'' : Cursor} → Between s (c'' .at) (c₀ .at) (40 ∷ []) → y ≡ Out → Descends n s (bracket 40 ∷ members d ∷ []) c'' m₀ b₀ Out b''
-    program-out p e = record { reads = opened p (record { then-on = λ hs z end g. one-more-member hs z end (rw e g) }); ahead = ahead-out refl }
+  module _ {y : Turn} {b' cells' : List ℕ} (a : Advances n s (waiting (drop (w .top) cells)) c m b y b' cells') where
+    -- the next goal is not there
+    pub loop-out : y ≡ Out-turn → Follows n s gs (To c₀ m₀) b₀ [] Out b' × Ahead s 0 Out
+    loop-out e = (follows-on (l .follows) (rw e at (a .follows)), ahead-out refl)
 
     -- it is passed
-    pub loop-again : {c' : Cursor} {m'' : Met} → y ≡ To c' m'' → length b' ≡ length b → length b'' ≡ length b' → Looping n s d c₀ m₀ b₀ c' m'' b''
-    loop-again {c'} {m''} e p q = let h = t .ahead c' m'' e in record { more = λ hs z end g. one-more-member hs z end (rw e g); same-long = omega (arith, l .same-long); beyond = omega (arith, l .beyond) }
+    pub loop-again : {c' : Cursor} {m' : Met} {w' : Waiting} → y ≡ To-turn c' m' w' → length b' ≡ length b → length cells' ≡ length cells → Looping n s gs c₀ m₀ b₀ cells₀ c' m' w' b' cells'
+    loop-again {c'} {m'} {w'} e p q =
+        let h = a .ahead c' m' w' e in
+        record {
+          follows = follows-on (l .follows) (rw e at (a .follows));
+          stands = record { small = l .stands .small; long = omega (arith, l .stands .long); beyond = omega (arith, h .0); stacked = h .1 };
+          same-long = p ∙ l .same-long;
+          same-deep = q ∙ l .same-deep;
+        }
 
 -- An N.
 
@@ -377,9 +453,9 @@ pub record Whole (n : ℕ) (s : List ℕ) (c : Cursor) (m : Met) (b : List ℕ) 
 abbrev nothing-met : Met
 nothing-met = record { nodes = 0; bad = false; loose = false }
 
-module _ {n : ℕ} {s : List ℕ} {c : Cursor} {b b' : List ℕ} {y : Descent} (start : c .at ≡ 0) (h : Descends n s (bracket 40 ∷ members 0 ∷ []) c nothing-met b y b') where
+module _ {n : ℕ} {s : List ℕ} {c : Cursor} {b b' : List ℕ} {y : Descent} (start : c .at ≡ 0) (h : Follows n s (bracket 40 ∷ members 0 ∷ []) (To c nothing-met) b [] y b' × Ahead s 0 y) where
   leads : Leads n s (bracket 40 ∷ members 0 ∷ []) (To c nothing-met) b y b'
-  leads = h .reads .then-on [] y b' (leads-end n s b' y)
+  leads = h .0 .then-on y b' (leads-end n s b' y)
 
   -- no program stands at the beginning
   pub parse-out : y ≡ Out → Parses n s b' Parsed-out
@@ -394,7 +470,7 @@ module _ {n : ℕ} {s : List ℕ} {c : Cursor} {b b' : List ℕ} {y : Descent} (
         found = r;
         here = ap (λ (k : ℕ). drop k s) (sym start) ∙ p .here ∙ ap (λ (q : List ℕ). q ++ drop (c' .at) s) (sym (text-spelled r));
         keeps = simp (followed-none, followed-end) at (p .kept no-node (record { count = refl; bad-so-far = refl; loose-so-far = λ e. refl; stored = λ e l. refl }));
-        within = h .ahead c' m e .within;
+        within = h .1 c' m e .within;
       }
 
 module _ {n : ℕ} {s : List ℕ} {c : Cursor} {m : Met} {b : List ℕ} (w : Whole n s c m b) where

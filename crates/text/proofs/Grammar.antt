@@ -10,15 +10,15 @@ use native.Mathlib.Omega.{arith}
 use lib.Dec.{eqb, ltb, leb}
 use lib.Seq.{append-snoc}
 use borrow.Author.Tests.{eqb-true, eq-eqb, ltb-true, lt-ltb, leb-false, lt-leb, not-false}
-use Rattle.calculus.specs.Tree.{Sort, term, program, Pair, app, guard, unif, code as code-head, at, Tree, empty, alt, bound, free, con, abs, fresh, two, pairKind, preorder}
+use Rattle.calculus.specs.Tree.{Sort, term, program, app, guard, unif, code as code-head, at, Tree, empty, alt, bound, free, con, abs, fresh, two, pairKind, preorder}
 use Rattle.calculus.specs.Good.{InRange, Closed, constructors}
 use Rattle.calculus.specs.Sexp.{decimal, one, many, Sexp, atom, list, nothing, more, bytes}
-use Rattle.calculus.specs.Text.{Leaf, bound-leaf, free-leaf, con-leaf, Raw, raw-empty, raw-alt, raw-leaf, raw-code, raw-at, raw-fresh, raw-two, leafTag, pairTag, encode, raw}
+use Rattle.calculus.specs.Text.{Leaf, bound-leaf, free-leaf, con-leaf, Raw, raw-empty, raw-alt, raw-leaf, raw-code, raw-at, raw-fresh, raw-two, encode, raw}
 use Rattle.calculus.proofs.Decimals.{number-of, number-of-decimal}
 use Rattle.calculus.proofs.Bytes.{bytes-prefix}
 use Rattle.text.specs.declared.numbers.Number.the-variants.{Bad, Is}
 use Rattle.text.specs.Numbers.{NumberIs, is, bad}
-use Rattle.text.specs.Descent.{Note, no-node, node-note, followed, same, is-number, leaf-kind, leaf-below, number-note, note, Goal, kind, number, bracket, one-term, members, Fills, spelled-all, noted-all}
+use Rattle.text.specs.Descent.{Note, no-node, node-note, followed, same, is-number, leaf-kind, leaf-below, number-note, note, Goal, kind, number, bracket, one-term, members, Fills, spelled-all, noted-all, Row, leaf, code, located, opened, pair, tag}
 
 impossible : {A : Type 0} → _≡_ {A = ℕ} 0 1 → A
 impossible e = absurd (omega arith)
@@ -26,20 +26,6 @@ impossible e = absurd (omega arith)
 both-true : (a b : Bool) → (a && b) ≡ true → (a ≡ true) × (b ≡ true)
 both-true true b e = (refl, e)
 both-true false b e = impossible (cc)
-
--- the nine rows of terms
-pub data Row : Type 0 where
-  leaf : Leaf → Row
-  code located opened : Row
-  pair : Pair → Row
-
--- the byte that announces a row
-abbrev pub tag : Row → ℕ
-tag (leaf l) = leafTag l
-tag code = 108
-tag located = 76
-tag opened = 110
-tag (pair o) = pairTag o
 
 -- what is to be read behind the tag, up to the closing bracket
 abbrev pub parts : ℕ → ℕ → Row → List Goal

@@ -4,6 +4,7 @@ pub mod Pieces
 pub mod Lengths
 pub mod Decimals
 pub mod Grammar
+pub mod Stacks
 pub mod Descents
 pub mod RoundTrip
 pub mod Stored

@@ -4,11 +4,11 @@ use mathlib.Core.Bool.{Bool, true, false, not, _||_, _&&_}
 use mathlib.Core.List.{List, [], _∷_, _++_}
 use Prim.Native.Nat.{ℕ, _+_, _*_, _≤_, _<_}
 use lib.Dec.{eqb, ltb, leb}
-use lib.ListN.{length, take, drop}
-use Rattle.calculus.specs.Tree.{Sort, term, program, pairKind}
+use lib.ListN.{length, getD, take, drop}
+use Rattle.calculus.specs.Tree.{Sort, term, program, Pair, pairKind}
 use Rattle.calculus.specs.Good.{constructors}
 use Rattle.calculus.specs.Sexp.{decimal, atom, bytes}
-use Rattle.calculus.specs.Text.{Leaf, bound-leaf, free-leaf, con-leaf, Raw, raw-empty, raw-alt, raw-leaf, raw-code, raw-at, raw-fresh, raw-two, encode}
+use Rattle.calculus.specs.Text.{Leaf, bound-leaf, free-leaf, con-leaf, Raw, raw-empty, raw-alt, raw-leaf, raw-code, raw-at, raw-fresh, raw-two, leafTag, pairTag, encode}
 use Rattle.calculus.proofs.Decimals.{number-of}
 use Rattle.csexp.specs.declared.Cursor.{Cursor}
 use Rattle.text.specs.declared.items.Found.{Found}
@@ -17,9 +17,12 @@ use Rattle.text.specs.declared.items.Atomic.{Atomic}
 use Rattle.text.specs.declared.items.Atomic.the-variants.{No as No-atom, Of}
 use Rattle.text.specs.declared.items.Tag.{Tag}
 use Rattle.text.specs.declared.items.Tag.the-variants.{No as No-tag, Is}
+use Rattle.text.specs.declared.goals.Waiting.{Waiting}
 use Rattle.text.specs.declared.parse.Met.{Met}
 use Rattle.text.specs.declared.parse.Descent.{Descent}
 use Rattle.text.specs.declared.parse.Descent.the-variants.{Out, To}
+use Rattle.text.specs.declared.parse.Turn.{Turn}
+use Rattle.text.specs.declared.parse.Turn.the-variants.{Out as Out-turn, To as To-turn}
 
 -- Items.
 
@@ -189,18 +192,119 @@ pub record Beyond (s : List ℕ) (k at nodes : ℕ) : Type 0 where
 abbrev pub Ahead : List ℕ → ℕ → Descent → Type 0
 Ahead s k x = (c : Cursor) (m : Met) → x ≡ To c m → Beyond s k (c .at) (m .nodes)
 
--- with d binders around it, so few nodes and binders that nothing wraps
-pub record Ready (n d : ℕ) (c : Cursor) (m : Met) : Type 0 where
-  pub small : n < constructors
-  pub nested : d ≤ c .at
-  pub few : m .nodes ≤ c .at + 1
-
 -- what a descent by these goals owes
 pub record Descends (n : ℕ) (s : List ℕ) (gs : List Goal) (c : Cursor) (m : Met) (build : List ℕ) (y : Descent) (build' : List ℕ) : Type 0 where
   pub reads : Reads n s gs (To c m) build y build'
   pub ahead : Ahead s (c .at + 1) y
 
--- the same for a closing bracket, which leaves the build table alone
-pub record Closes (s : List ℕ) (x y : Descent) : Type 0 where
-  pub reads : (n : ℕ) (build : List ℕ) → Reads n s (bracket 41 ∷ []) x build y build
-  pub ahead : (k : ℕ) → Ahead s k x → Ahead s k y
+-- Tags.
+
+-- the nine rows of terms
+pub data Row : Type 0 where
+  leaf : Leaf → Row
+  code located opened : Row
+  pair : Pair → Row
+
+-- the byte that announces a row
+abbrev pub tag : Row → ℕ
+tag (leaf l) = leafTag l
+tag code = 108
+tag located = 76
+tag opened = 110
+tag (pair o) = pairTag o
+
+-- the node behind the tag
+abbrev pub node-of : ℕ → ℕ → Row → Goal
+node-of n d (leaf l) = number (leaf-kind l) (leaf-below n l) d
+node-of n d code = kind 5
+node-of n d located = number 6 n d
+node-of n d opened = kind 8
+node-of n d (pair o) = kind (pairKind o)
+
+-- the node of the tag k is read, which leaves at most as many nodes as places; or no row has this tag
+pub data Heads (n : ℕ) (s : List ℕ) (d k : ℕ) (c : Cursor) (m : Met) (build : List ℕ) (y : Descent) (build' : List ℕ) : Type 0 where
+  row : (x : Row) → k ≡ tag x → Reads n s (node-of n d x ∷ []) (To c m) build y build' → Ahead s (c .at) y → Heads n s d k c m build y build'
+  no-row : ((x : Row) → k ≡ tag x → ⊥) → y ≡ Out → Heads n s d k c m build y build'
+
+-- The goals that wait, as cells of a stack, the next first.
+
+-- the binders that end among them: 0 a term, 1 members, 2 an opening bracket, 3 a closing one, and any other a closing one that ends a binder
+abbrev pub ends : List ℕ → ℕ
+ends [] = 0
+ends (cell ∷ cells) = getD (ends cells ∷ ends cells ∷ ends cells ∷ ends cells ∷ []) cell (ends cells + 1)
+
+-- what they stand for
+abbrev pub waiting : List ℕ → List Goal
+waiting [] = []
+waiting (cell ∷ cells) = getD (one-term (ends cells) ∷ members (ends cells) ∷ bracket 40 ∷ bracket 41 ∷ []) cell (bracket 41) ∷ waiting cells
+
+-- what a row announces behind its node
+abbrev pub cells-of : Row → List ℕ
+cells-of (leaf l) = 3 ∷ []
+cells-of code = 2 ∷ 1 ∷ 4 ∷ []
+cells-of located = 2 ∷ 1 ∷ 4 ∷ []
+cells-of opened = 0 ∷ 4 ∷ []
+cells-of (pair o) = 0 ∷ 0 ∷ 3 ∷ []
+
+-- one goal more
+pub record Pushes (goal : ℕ) (cells : List ℕ) (top next : ℕ) (cells' : List ℕ) : Type 0 where
+  pub one-less : next + 1 ≡ top
+  pub here : drop next cells' ≡ goal ∷ drop top cells
+
+-- what a tag announces
+pub record Announced (x : Row) (w : Waiting) (cells : List ℕ) (w' : Waiting) (cells' : List ℕ) : Type 0 where
+  pub here : drop (w' .top) cells' ≡ cells-of x ++ drop (w .top) cells
+  pub binds : w .binders ≡ ends (drop (w .top) cells) → w' .binders ≡ ends (drop (w' .top) cells')
+
+pub record Announces (k : ℕ) (w : Waiting) (cells : List ℕ) (w' : Waiting) (cells' : List ℕ) : Type 0 where
+  pub few : w .top ≤ w' .top + 3
+  pub lower : w' .top ≤ w .top
+  pub by-row : (x : Row) → k ≡ tag x → Announced x w cells w' cells'
+
+-- the stack: never more cells than the bytes passed and two, and the binders that end among them
+pub record Stacked (cells : List ℕ) (at : ℕ) (w : Waiting) : Type 0 where
+  pub on : w .top ≤ length cells
+  pub room : length cells ≤ w .top + at + 2
+  pub binds : w .binders ≡ ends (drop (w .top) cells)
+
+-- before the next goal
+pub record Stands (n : ℕ) (s cells : List ℕ) (c : Cursor) (m : Met) (w : Waiting) : Type 0 where
+  pub small : n < constructors
+  pub long : length s + 2 ≤ length cells
+  pub beyond : Beyond s 0 (c .at) (m .nodes)
+  pub stacked : Stacked cells (c .at) w
+
+-- before a term, whose alternative is noted
+pub record Ready (n : ℕ) (s cells : List ℕ) (c : Cursor) (m : Met) (w : Waiting) : Type 0 where
+  pub small : n < constructors
+  pub long : length s + 2 ≤ length cells
+  pub few : m .nodes ≤ c .at + 1
+  pub stacked : Stacked cells (c .at) w
+
+-- the next goal is this one
+pub record Tops (cells : List ℕ) (top goal : ℕ) : Type 0 where
+  pub on : top < length cells
+  pub is : getD cells top 0 ≡ goal
+
+-- a bracket is passed, or out
+abbrev pub passed : Found → Met → Waiting → Turn
+passed No-found m w = Out-turn
+passed (Behind c) m w = To-turn c m w
+
+-- the descent of a turn, and what waits then
+abbrev pub descent : Turn → Descent
+descent Out-turn = Out
+descent (To-turn c m w) = To c m
+
+abbrev pub left : Turn → List ℕ → List Goal
+left Out-turn cells = []
+left (To-turn c m w) cells = waiting (drop (w .top) cells)
+
+-- x before the goals gs becomes y before the goals hs: where y leads then, x leads
+pub record Follows (n : ℕ) (s : List ℕ) (gs : List Goal) (x : Descent) (build : List ℕ) (hs : List Goal) (y : Descent) (build' : List ℕ) : Type 0 where
+  pub then-on : (z : Descent) (end : List ℕ) → Leads n s hs y build' z end → Leads n s gs x build z end
+
+-- what a turn owes
+pub record Advances (n : ℕ) (s : List ℕ) (gs : List Goal) (c : Cursor) (m : Met) (build : List ℕ) (y : Turn) (build' cells' : List ℕ) : Type 0 where
+  pub follows : Follows n s gs (To c m) build (left y cells') (descent y) build'
+  pub ahead : (c' : Cursor) (m' : Met) (w' : Waiting) → y ≡ To-turn c' m' w' → Beyond s (c .at + 1) (c' .at) (m' .nodes) × Stacked cells' (c' .at) w'

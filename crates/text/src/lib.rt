@@ -1,4 +1,5 @@
 // Texts: text to table, and table to text.
+pub mod goals;
 pub mod items;
 pub mod numbers;
 pub mod parse;

@@ -1,9 +1,19 @@
 // One descent over the grammar. It gives 4 at once, and carries on for 5, 6 and 7 to the end of the text, past the node limit.
+ghost use mathlib.Core.Path.{_≡_};
 ghost use mathlib.Core.List.{[], _∷_};
 ghost use Prim.Native.Nat.{ℕ, _+_, _^_, _<_, _≤_};
+ghost use lib.ListN.{length, drop};
+ghost use Rattle.text.specs.declared.parse.Descent.the-variants.{To};
 ghost use Rattle.text.specs.Reading.{Parses};
-ghost use Rattle.text.specs.Descent.{Noted, Closes, Ready, Descends, number, bracket, one-term, members};
+ghost use Rattle.text.specs.Descent.{Noted, Heads, Ready, Stands, Tops, passed, Beyond, Ahead, Follows, Advances, Descends, number, bracket, one-term, members, waiting};
 use crate::Parsed;
+use crate::goals::CLOSE;
+use crate::goals::MEMBERS;
+use crate::goals::OPEN;
+use crate::goals::TERM;
+use crate::goals::Waiting;
+use crate::goals::announced;
+use crate::goals::push;
 use crate::items::Atomic;
 use crate::items::Found;
 use crate::items::Tag;
@@ -29,6 +39,12 @@ pub enum Descent {
     To(Cursor, Met),
 }
 
+// The same of a turn, and what waits.
+pub enum Turn {
+    Out,
+    To(Cursor, Met, Waiting),
+}
+
 // One more node, stored where there is room for it and counted in any case.
 fn noted(m: Met, kind: u16, number: u16, build: &mut [u16]) -> Met
     requires { ⌜ m .nodes < 2 ^ 63 ⌝ }
@@ -45,19 +61,6 @@ fn noted(m: Met, kind: u16, number: u16, build: &mut [u16]) -> Met
     }
     put_node(build, at, kind, number);
     more
-}
-
-// Behind the closing bracket, where there is one.
-fn closed(s: &[u8], x: Descent) -> Descent
-    ensures { λ r. ⌜ Closes (now (s .entry)) x r ⌝ }
-{
-    let Descent::To(c, m) = x else {
-        return Descent::Out;
-    };
-    let Found::Behind(next) = close_at(s, c) else {
-        return Descent::Out;
-    };
-    Descent::To(next, m)
 }
 
 // The N of a node of this kind, below its bound. An index, kind 2, has its binder among the d around it.
@@ -100,71 +103,159 @@ fn numbered(
     Descent::To(next, q)
 }
 
-// A program in brackets, with d binders around it.
-fn read_program(s: &[u8], c: Cursor, m: Met, d: usize, limit: usize, build: &mut [u16]) -> Descent
-    requires { ⌜ Ready limit d c m ⌝ }
-    ensures { λ r. ⌜ Descends limit (now (s .entry)) (bracket 40 ∷ members d ∷ []) c m (now (build .entry)) r (now (build .exit)) ⌝ }
+// The node of a term with this tag, d binders around it: its kind, and its N where it has one.
+fn head(s: &[u8], c: Cursor, m: Met, tag: u8, limit: usize, d: usize, build: &mut [u16]) -> Descent
+    requires { ⌜ (limit < 65536) × (m .nodes + 1 ≤ c .at) × (c .at ≤ length (now s)) ⌝ }
+    ensures { λ r. ⌜ Heads limit (now (s .entry)) d tag c m (now (build .entry)) r (now (build .exit)) ⌝ }
 {
-    let Found::Behind(first) = open_at(s, c) else {
-        return Descent::Out;
+    // v, x and c; l, L and n; a, g and u
+    match tag {
+        118 => numbered(s, c, m, 2, limit, d, build),
+        120 => numbered(s, c, m, 3, limit, d, build),
+        99 => numbered(s, c, m, 4, 65536, d, build),
+        108 => Descent::To(c, noted(m, 5, 0, build)),
+        76 => numbered(s, c, m, 6, limit, d, build),
+        110 => Descent::To(c, noted(m, 8, 0, build)),
+        97 => Descent::To(c, noted(m, 7, 0, build)),
+        103 => Descent::To(c, noted(m, 9, 0, build)),
+        117 => Descent::To(c, noted(m, 10, 0, build)),
+        _ => Descent::Out,
+    }
+}
+
+// A term before the goals that wait: its tag and its node. What its tag announces waits then, and its closing bracket.
+fn begun(
+    s: &[u8],
+    c: Cursor,
+    m: Met,
+    w: Waiting,
+    limit: usize,
+    build: &mut [u16],
+    goals: &mut [u8],
+) -> Turn
+    requires { ⌜ Ready limit (now s) (now goals) c m w ⌝ }
+    ensures { λ r. ⌜ Advances limit (now (s .entry)) (one-term (w .binders) ∷ waiting (drop (w .top) (now (goals .entry)))) c m (now (build .entry)) r (now (build .exit)) (now (goals .exit)) ⌝ }
+{
+    let Tag::Is(tag, next) = tag_at(s, c) else {
+        return Turn::Out;
     };
-    let mut at = first;
+    let Descent::To(behind, q) = head(s, next, m, tag, limit, w.binders, build) else {
+        return Turn::Out;
+    };
+    Turn::To(behind, q, announced(tag, w, goals))
+}
+
+// The members of a program that are the next goal: its closing bracket, or a term before them.
+fn member(
+    s: &[u8],
+    c: Cursor,
+    m: Met,
+    w: Waiting,
+    limit: usize,
+    build: &mut [u16],
+    goals: &mut [u8],
+) -> Turn
+    requires { ⌜ Stands limit (now s) (now goals) c m w ⌝ }
+    requires { ⌜ Tops (now goals) (w .top) 1 ⌝ }
+    ensures { λ r. ⌜ Advances limit (now (s .entry)) (waiting (drop (w .top) (now (goals .entry)))) c m (now (build .entry)) r (now (build .exit)) (now (goals .exit)) ⌝ }
+{
+    if let Found::Behind(next) = close_at(s, c) {
+        return Turn::To(
+            next,
+            noted(m, 0, 0, build),
+            Waiting {
+                top: w.top + 1,
+                binders: w.binders,
+            },
+        );
+    }
+    begun(s, c, noted(m, 1, 0, build), w, limit, build, goals)
+}
+
+// Behind a bracket, where there is one.
+fn passed(found: Found, m: Met, w: Waiting) -> Turn
+    ensures { λ r. ⌜ r ≡ passed found m w ⌝ }
+{
+    let Found::Behind(next) = found else {
+        return Turn::Out;
+    };
+    Turn::To(next, m, w)
+}
+
+// Reads the next goal.
+fn advance(
+    s: &[u8],
+    c: Cursor,
+    m: Met,
+    w: Waiting,
+    limit: usize,
+    build: &mut [u16],
+    goals: &mut [u8],
+) -> Turn
+    requires { ⌜ Stands limit (now s) (now goals) c m w ⌝ }
+    requires { ⌜ w .top < length (now goals) ⌝ }
+    ensures { λ r. ⌜ Advances limit (now (s .entry)) (waiting (drop (w .top) (now (goals .entry)))) c m (now (build .entry)) r (now (build .exit)) (now (goals .exit)) ⌝ }
+{
+    let top = w.top;
+    let rest = Waiting {
+        top: top + 1,
+        binders: w.binders,
+    };
+    match goals[top] {
+        TERM => begun(s, c, m, rest, limit, build, goals),
+        MEMBERS => member(s, c, m, w, limit, build, goals),
+        OPEN => passed(open_at(s, c), m, rest),
+        CLOSE => passed(close_at(s, c), m, rest),
+        _ => passed(
+            close_at(s, c),
+            m,
+            Waiting {
+                top: top + 1,
+                binders: w.binders - 1,
+            },
+        ),
+    }
+}
+
+// A program in brackets: one goal after another, until none is left.
+fn descend(
+    s: &[u8],
+    c: Cursor,
+    m: Met,
+    limit: usize,
+    build: &mut [u16],
+    goals: &mut [u8],
+) -> Descent
+    requires { ⌜ (limit < 65536) × (length (now s) + 2 ≤ length (now goals)) × Beyond (now s) 0 (c .at) (m .nodes) ⌝ }
+    ensures { λ r. ⌜ Follows limit (now (s .entry)) (bracket 40 ∷ members 0 ∷ []) (To c m) (now (build .entry)) [] r (now (build .exit)) ⌝ }
+    ensures { λ r. ⌜ Ahead (now (s .entry)) 0 r ⌝ }
+{
+    let end = goals.len();
+    let last = push(goals, end, MEMBERS);
+    let mut w = Waiting {
+        top: push(goals, last, OPEN),
+        binders: 0,
+    };
+    let mut at = c;
     let mut met = m;
     loop {
-        if let Found::Behind(next) = close_at(s, at) {
-            return Descent::To(next, noted(met, 0, 0, build));
+        let top = w.top;
+        if top == goals.len() {
+            return Descent::To(at, met);
         }
-        let Descent::To(next, q) = read_term(s, at, noted(met, 1, 0, build), d, limit, build) else {
+        let Turn::To(next, q, v) = advance(s, at, met, w, limit, build, goals) else {
             return Descent::Out;
         };
         at = next;
         met = q;
+        w = v;
     }
 }
 
-// Two terms.
-fn read_pair(s: &[u8], c: Cursor, m: Met, d: usize, limit: usize, build: &mut [u16]) -> Descent
-    requires { ⌜ Ready limit d c m ⌝ }
-    ensures { λ r. ⌜ Descends limit (now (s .entry)) (one-term d ∷ one-term d ∷ []) c m (now (build .entry)) r (now (build .exit)) ⌝ }
-{
-    let Descent::To(next, q) = read_term(s, c, m, d, limit, build) else {
-        return Descent::Out;
-    };
-    read_term(s, next, q, d, limit, build)
-}
-
-// One term, with d binders around it: what its tag announces, between its brackets.
-fn read_term(s: &[u8], c: Cursor, m: Met, d: usize, limit: usize, build: &mut [u16]) -> Descent
-    requires { ⌜ Ready limit d c m ⌝ }
-    ensures { λ r. ⌜ Descends limit (now (s .entry)) (one-term d ∷ []) c m (now (build .entry)) r (now (build .exit)) ⌝ }
-{
-    let Tag::Is(tag, next) = tag_at(s, c) else {
-        return Descent::Out;
-    };
-    // v, x and c; l, L and n; a, g and u
-    let inner = match tag {
-        118 => numbered(s, next, m, 2, limit, d, build),
-        120 => numbered(s, next, m, 3, limit, d, build),
-        99 => numbered(s, next, m, 4, 65536, d, build),
-        108 => read_program(s, next, noted(m, 5, 0, build), d + 1, limit, build),
-        76 => {
-            let Descent::To(behind, q) = numbered(s, next, m, 6, limit, d, build) else {
-                return Descent::Out;
-            };
-            read_program(s, behind, q, d + 1, limit, build)
-        }
-        110 => read_term(s, next, noted(m, 8, 0, build), d + 1, limit, build),
-        97 => read_pair(s, next, noted(m, 7, 0, build), d, limit, build),
-        103 => read_pair(s, next, noted(m, 9, 0, build), d, limit, build),
-        117 => read_pair(s, next, noted(m, 10, 0, build), d, limit, build),
-        _ => Descent::Out,
-    };
-    closed(s, inner)
-}
-
-// The whole text as one program.
-pub fn parse(s: &[u8], limit: usize, build: &mut [u16]) -> Parsed
+// The whole text as one program. The goals are lent: what is still to be read.
+pub fn parse(s: &[u8], limit: usize, build: &mut [u16], goals: &mut [u8]) -> Parsed
     requires { ⌜ limit < 65536 ⌝ }
+    requires { ⌜ length (now s) + 2 ≤ length (now goals) ⌝ }
     ensures { λ r. ⌜ Parses limit (now (s .entry)) (now (build .exit)) r ⌝ }
 {
     let none = Met {
@@ -172,7 +263,7 @@ pub fn parse(s: &[u8], limit: usize, build: &mut [u16]) -> Parsed
         bad: false,
         loose: false,
     };
-    let Descent::To(c, m) = read_program(s, Cursor::start(), none, 0, limit, build) else {
+    let Descent::To(c, m) = descend(s, Cursor::start(), none, limit, build, goals) else {
         return Parsed::Out;
     };
     let at = c.at;

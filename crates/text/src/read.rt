@@ -26,7 +26,7 @@ fn copy(from: &[u16], n: usize, out: &mut [u16])
     }
 }
 
-// Reads a text into a table. The build table and the scratch are lent; the limit is the node limit.
+// Reads a text into a table. The build table, the scratch and the goals are lent; the limit is the node limit.
 // It builds apart from the output, into which nothing may be written before the last refusal is decided.
 pub fn read(
     text: &[u8],
@@ -34,10 +34,12 @@ pub fn read(
     limit: usize,
     build: &mut [u16],
     scratch: &mut [u16],
+    goals: &mut [u8],
 ) -> Counted
     requires { ⌜ limit < 32767 ⌝ }
     requires { ⌜ 2 * limit ≤ length (now build) ⌝ }
     requires { ⌜ limit + 2 ≤ length (now scratch) ⌝ }
+    requires { ⌜ 12 * limit + 2 ≤ length (now goals) ⌝ }
     ensures { λ r. ⌜ Reads limit (now (text .entry)) (now (out .entry)) (countedValues r) (now (out .exit)) ⌝ }
 {
     if 12 * limit < text.len() {
@@ -46,7 +48,7 @@ pub fn read(
     if !is_one(text) {
         return Counted::Refused(Refusal::NotCanonical);
     }
-    let nodes = match parse(text, limit, build) {
+    let nodes = match parse(text, limit, build, goals) {
         Parsed::Out => return Counted::Refused(Refusal::OutOfPlace),
         Parsed::Bad => return Counted::Refused(Refusal::BadNumber),
         Parsed::Loose => return Counted::Refused(Refusal::NoBinder),

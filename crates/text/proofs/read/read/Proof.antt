@@ -18,10 +18,10 @@ abbrev built : tie.After-parse → List ℕ
 built c = c .parse .last .1 .1 .0
 
 abbrev entry : tie.After-parse → tie.Start
-entry c = c .before .before .before .before .before .before .before .before .before
+entry c = c .before .before .before .before .before .before .before .before .before .before .before
 
 abbrev after-parse : tie.After-n → tie.After-parse
-after-parse c = c .before .before .before .before
+after-parse c = c .before .before .before .before .before .before
 
 abbrev after-n : tie.After-check → tie.After-n
 after-n c = c .before .before .before .before .before
@@ -29,8 +29,8 @@ after-n c = c .before .before .before .before .before
 -- what the scan and the parse decide
 decided : {x : Parsed} (c : tie.After-parse) → c .parse .result ≡ x → let s = entry c .args in Decided (s .limit) (s .text .now) (s .out .now) (built c) x
 decided c e =
-    let one = c .before .before .before .is-one in
-    decide _ (scan (omega (arith, c .before .before .before .before .if1)) (not-false (one .result) (c .before .before .if2 .left)) (one .ensures)) e (c .parse .ensures)
+    let one = c .before .before .before .before .is-one in
+    decide _ (scan (omega (arith, c .before .before .before .before .before .if1)) (not-false (one .result) (c .before .before .before .if2 .left)) (one .ensures)) e (c .parse .ensures)
 
 -- a program is there
 parsed : (c : tie.After-n) → let d = after-parse c in let s = entry d .args in Parsed-there (s .limit) (s .text .now) (built d) (c .n .given .0 .0)
@@ -42,7 +42,7 @@ loaded c = let d = after-parse (after-n c) in load (parsed (after-n c)) (omega (
 
 -- what the check says of it
 checked : (c : tie.After-check) → let n = after-n c in let d = after-parse n in Checks (entry d .args .limit) (built d) (n .n .given .0 .0) (checkedNumber (c .check .result))
-checked c = let s = entry (after-parse (after-n c)) in rw (in-force-is (s .pre .0) (s .pre .1 .1)) at (c .check .ensures)
+checked c = let s = entry (after-parse (after-n c)) in rw (in-force-is (s .pre .0) (s .pre .1 .1 .0)) at (c .check .ensures)
 
 mul-if1 : tie.Need-mul-if1
 mul-if1 c = search needs
@@ -65,32 +65,44 @@ enum-told c = search needs
 same-length : tie.Need-same-length
 same-length c = search needs
 
+same-length-2 : tie.Need-same-length-2
+same-length-2 c = search needs
+
 returns-3 : tie.Need-returns-3
-returns-3 c = decided (c .before .before .before .before) (c .enum-told .given .1)
+returns-3 c = decided (c .before .before .before .before .before .before) (c .enum-told .given .1)
 
 enum-told-2 : tie.Need-enum-told-2
 enum-told-2 c = search needs
 
-same-length-2 : tie.Need-same-length-2
-same-length-2 c = search needs
+same-length-3 : tie.Need-same-length-3
+same-length-3 c = search needs
+
+same-length-4 : tie.Need-same-length-4
+same-length-4 c = search needs
 
 returns-4 : tie.Need-returns-4
-returns-4 c = decided (c .before .before .before .before) (c .enum-told2 .given .1)
+returns-4 c = decided (c .before .before .before .before .before .before) (c .enum-told2 .given .1)
 
 enum-told-3 : tie.Need-enum-told-3
 enum-told-3 c = search needs
 
-same-length-3 : tie.Need-same-length-3
-same-length-3 c = search needs
+same-length-5 : tie.Need-same-length-5
+same-length-5 c = search needs
+
+same-length-6 : tie.Need-same-length-6
+same-length-6 c = search needs
 
 returns-5 : tie.Need-returns-5
-returns-5 c = decided (c .before .before .before .before) (c .enum-told3 .given .1)
+returns-5 c = decided (c .before .before .before .before .before .before) (c .enum-told3 .given .1)
 
 enum-known-n : tie.Need-enum-known-n
 enum-known-n c = search needs
 
-same-length-4 : tie.Need-same-length-4
-same-length-4 c = search needs
+same-length-7 : tie.Need-same-length-7
+same-length-7 c = search needs
+
+same-length-8 : tie.Need-same-length-8
+same-length-8 c = search needs
 
 returns-6 : tie.Need-returns-6
 returns-6 c = read-too-many (parsed (c .before .before)) (omega arith)
@@ -104,20 +116,26 @@ enum-told-4 c = search needs
 enum-told-5 : tie.Need-enum-told-5
 enum-told-5 c = search needs
 
-same-length-5 : tie.Need-same-length-5
-same-length-5 c = search needs
+same-length-9 : tie.Need-same-length-9
+same-length-9 c = search needs
 
-same-length-6 : tie.Need-same-length-6
-same-length-6 c = search needs
+same-length-10 : tie.Need-same-length-10
+same-length-10 c = search needs
+
+same-length-11 : tie.Need-same-length-11
+same-length-11 c = search needs
 
 returns-7 : tie.Need-returns-7
 returns-7 c = let d = c .before .before .before .before in read-incoherent (loaded d) (c .enum-told5 .given .1) (checked d)
 
-same-length-7 : tie.Need-same-length-7
-same-length-7 c = search needs
+same-length-12 : tie.Need-same-length-12
+same-length-12 c = search needs
 
-same-length-8 : tie.Need-same-length-8
-same-length-8 c = search needs
+same-length-13 : tie.Need-same-length-13
+same-length-13 c = search needs
+
+same-length-14 : tie.Need-same-length-14
+same-length-14 c = search needs
 
 returns-8 : tie.Need-returns-8
 returns-8 c = let d = c .before .before .before .before .before in read-no-room (loaded d) (admitted-there (c .before .enum-told4 .given .1) (checked d)) (omega arith)
@@ -128,14 +146,17 @@ mul-copy c = search needs
 copy-requires : tie.Need-copy-requires
 copy-requires c κs = search needs
 
-same-length-9 : tie.Need-same-length-9
-same-length-9 c = search needs
+same-length-15 : tie.Need-same-length-15
+same-length-15 c = search needs
 
-same-length-10 : tie.Need-same-length-10
-same-length-10 c = search needs
+same-length-16 : tie.Need-same-length-16
+same-length-16 c = search needs
 
-same-length-11 : tie.Need-same-length-11
-same-length-11 c = search needs
+same-length-17 : tie.Need-same-length-17
+same-length-17 c = search needs
+
+same-length-18 : tie.Need-same-length-18
+same-length-18 c = search needs
 
 returns-9 : tie.Need-returns-9
 returns-9 c =
@@ -154,28 +175,35 @@ read-spec =
     parse-requires
     enum-told
     same-length
+    same-length-2
     returns-3
     enum-told-2
-    same-length-2
+    same-length-3
+    same-length-4
     returns-4
     enum-told-3
-    same-length-3
+    same-length-5
+    same-length-6
     returns-5
     enum-known-n
-    same-length-4
+    same-length-7
+    same-length-8
     returns-6
     check-requires
     enum-told-4
     enum-told-5
-    same-length-5
-    same-length-6
-    returns-7
-    same-length-7
-    same-length-8
-    returns-8
-    mul-copy
-    copy-requires
     same-length-9
     same-length-10
     same-length-11
+    returns-7
+    same-length-12
+    same-length-13
+    same-length-14
+    returns-8
+    mul-copy
+    copy-requires
+    same-length-15
+    same-length-16
+    same-length-17
+    same-length-18
     returns-9)
