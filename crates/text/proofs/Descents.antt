@@ -326,17 +326,19 @@ module _ {n : ℕ} {s cells : List ℕ} {c : Cursor} {m : Met} {w : Waiting} (p 
   term-ready t = record { small = p .small; long = p .long; few = omega (arith, p .beyond .few); stacked = rest-stacked (t .on) (rest-binds t refl) }
 
   module _ {b : List ℕ} where
+    -- where it leads, what waits leads
     pub next-term : {y : Turn} {b' cells' : List ℕ} → Tops cells (w .top) 0 → Advances n s (one-term (w .binders) ∷ waiting (drop (w .top + 1) cells)) c m b y b' cells' → Advances n s (waiting (drop (w .top) cells)) c m b y b' cells'
     next-term t a = rw (next-goal cells (w .top) t, ← rest-binds t refl) a
 
-    -- a bracket
+    -- an opening bracket
     pub next-open : (f : Found) → Tops cells (w .top) 2 → FoundAt 40 s (c .at) f → Advances n s (waiting (drop (w .top) cells)) c m b (passed-bracket f m (record { top = w .top + 1; binders = w .binders })) b cells
     next-open f t h = rw (next-goal cells (w .top) t) (bracket-turn f h (p .beyond) (rest-stacked (t .on) (rest-binds t refl)))
 
+    -- a closing bracket
     pub next-close : (f : Found) → Tops cells (w .top) 3 → FoundAt 41 s (c .at) f → Advances n s (waiting (drop (w .top) cells)) c m b (passed-bracket f m (record { top = w .top + 1; binders = w .binders })) b cells
     next-close f t h = rw (next-goal cells (w .top) t) (bracket-turn f h (p .beyond) (rest-stacked (t .on) (rest-binds t refl)))
 
-    -- that ends a binder
+    -- a closing bracket that ends a binder
     pub next-end-close : (f : Found) → w .top < length cells → 4 ≤ getD cells (w .top) 0 → FoundAt 41 s (c .at) f → Advances n s (waiting (drop (w .top) cells)) c m b (passed-bracket f m (record { top = w .top + 1; binders = w .binders - 1 })) b cells
     next-end-close f l g h =
         let e = next-end cells (w .top) l g in

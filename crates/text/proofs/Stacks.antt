@@ -24,7 +24,7 @@ pushes cells top goal h g =
     let l : j < length cells = omega arith in
     record { one-less = omega arith; here = drop-cons (set cells j goal) j 0 (lt-length-set cells j goal l) ∙ rw (getD-set-same cells j goal 0 l, drop-set-lt (suc j) cells j goal (omega arith), e) }
 
--- so many goals end at most so many binders
+-- a goal ends at most one binder
 one-ends : (d cell : ℕ) → getD (d ∷ d ∷ d ∷ d ∷ []) cell (d + 1) ≤ d + 1
 one-ends d zero = omega arith
 one-ends d (suc zero) = omega arith
@@ -32,6 +32,7 @@ one-ends d (suc (suc zero)) = omega arith
 one-ends d (suc (suc (suc zero))) = omega arith
 one-ends d (suc (suc (suc (suc cell)))) = omega arith
 
+-- so many goals at most so many
 pub ends-few : (cells : List ℕ) → ends cells ≤ length cells
 ends-few [] = omega arith
 ends-few (cell ∷ cells) = omega (arith, one-ends (ends cells) cell, ends-few cells)

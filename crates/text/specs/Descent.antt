@@ -251,11 +251,12 @@ pub record Pushes (goal : ℕ) (cells : List ℕ) (top next : ℕ) (cells' : Lis
   pub one-less : next + 1 ≡ top
   pub here : drop next cells' ≡ goal ∷ drop top cells
 
--- what a tag announces
+-- what a row announces waits, with the binders that end there
 pub record Announced (x : Row) (w : Waiting) (cells : List ℕ) (w' : Waiting) (cells' : List ℕ) : Type 0 where
   pub here : drop (w' .top) cells' ≡ cells-of x ++ drop (w .top) cells
   pub binds : w .binders ≡ ends (drop (w .top) cells) → w' .binders ≡ ends (drop (w' .top) cells')
 
+-- what a tag announces: at most three goals, those of its row
 pub record Announces (k : ℕ) (w : Waiting) (cells : List ℕ) (w' : Waiting) (cells' : List ℕ) : Type 0 where
   pub few : w .top ≤ w' .top + 3
   pub lower : w' .top ≤ w .top
@@ -291,11 +292,12 @@ abbrev pub passed : Found → Met → Waiting → Turn
 passed No-found m w = Out-turn
 passed (Behind c) m w = To-turn c m w
 
--- the descent of a turn, and what waits then
+-- the descent of a turn
 abbrev pub descent : Turn → Descent
 descent Out-turn = Out
 descent (To-turn c m w) = To c m
 
+-- what waits then
 abbrev pub left : Turn → List ℕ → List Goal
 left Out-turn cells = []
 left (To-turn c m w) cells = waiting (drop (w .top) cells)
