@@ -3,6 +3,7 @@
 #include "../include/mespindro.h"
 
 int printf(const char *, ...);
+long read(int, void *, size_t);
 
 #define DEEP (6u << 20)
 #define PAINT 0xa5
@@ -90,7 +91,20 @@ static void on_table(const char *input, size_t levels, uint32_t most) {
     told("run", input, r, levels);
 }
 
+/* the rule set on standard input, in one piece */
+static void rule_set(void) {
+    length = (size_t)read(0, text, MESPINDRO_TEXT);
+    reading("rules/leaf-48", 0);
+    begin();
+    nodes = mespindro_read(text, length, table, MESPINDRO_TABLE).count;
+    on_table("rules/leaf-48", 0, 10000);
+}
+
 int main(void) {
+    nested_text(0, "", "", "");
+    /* once before, so that what a first call loads does not count */
+    (void)mespindro_read(text, length, work, MESPINDRO_TABLE);
+    rule_set();
     nested_text(0, "", "", "");
     reading("()", 0);
     nested_text(4912, "(1:n", "(1:c1:0)", ")");
@@ -129,16 +143,6 @@ int main(void) {
     node(0, 0);
     on_table("1,022 guards, nested on the right", 1022, 2000);
 
-    begin();
-    node(7, 0);
-    for (int i = 0; i < 1021; i++) {
-        node(5, 0);
-        node(1, 0);
-    }
-    node(2, 0);
-    for (int i = 0; i < 1021; i++)
-        node(0, 0);
-    nodes = 0;
     begin();
     node(7, 0);
     for (int i = 0; i < 680; i++) {

@@ -7,7 +7,6 @@
 use mespindro_tests::binding;
 use mespindro_tests::evaluator::table::{read_table, write_table};
 use mespindro_tests::evaluator::text::read_text;
-use mespindro_tests::evaluator::tree::Program;
 use mespindro_tests::evaluator::{self, NODES, TEXT};
 use mespindro_tests::on_big_stack;
 use std::fmt::Write;
@@ -56,6 +55,16 @@ fn measure_all() -> Vec<Row> {
 fn cases() -> Vec<Case> {
     let case = |name, table, most| Case { name, table, most };
     let mut cases = vec![
+        case(
+            "a structure of 1,999 nodes: nothing to do",
+            one_thread(&structure(999, |_| (4, 2))),
+            1,
+        ),
+        case(
+            "the same with 499 variables: nothing to do",
+            one_thread(&structure(999, |i| if i < 499 { (3, i) } else { (4, 2) })),
+            1,
+        ),
         case(
             "two equal structures of 1,000 nodes unified",
             equal_structures(),
@@ -270,17 +279,17 @@ fn library_run(case: &Case) -> (Duration, u32) {
     (time, steps)
 }
 
-/// The evaluator's tree is built before; only its steps are timed.
+/// The evaluator's whole call: it reads the table into a tree, runs it and writes the end's table.
 fn evaluator_run(case: &Case) -> Duration {
-    let program = read_table(&case.table, case.table.len() / 2).expect("the case is a program");
-    let copy = std::cell::RefCell::new(None::<Program>);
+    let mut table = vec![0u16; 2 * NODES];
+    table[..case.table.len()].copy_from_slice(&case.table);
+    let count = case.table.len() / 2;
     least(
-        || *copy.borrow_mut() = Some(program.clone()),
+        || {},
         |done| {
-            let program = copy.borrow_mut().take().expect("a copy");
-            let end = evaluator::run_program(program, NODES, case.most);
+            let end = evaluator::run(&table, count, 2 * NODES, case.most);
             done();
-            black_box(end.expect("small enough to copy"));
+            black_box(end.expect("small enough to copy").expect("the case runs"));
         },
     )
 }
@@ -400,7 +409,6 @@ fn ratio(a: Duration, b: Duration) -> f64 {
     a.as_secs_f64() / b.as_secs_f64()
 }
 
-/// The library's own time of a unification: the run of one step without what a run of no step takes but for the unification itself.
 fn report(rows: &[Row], prolog: &Option<(f64, f64)>) -> String {
     let mut out = String::new();
     let machine = std::env::consts::ARCH;
@@ -425,10 +433,18 @@ fn report(rows: &[Row], prolog: &Option<(f64, f64)>) -> String {
         )
         .unwrap();
     }
+    let own = |row: &Row, idle: &Row| time(row.library.saturating_sub(idle.library));
+    writeln!(
+        out,
+        "\nA unification's own time, beyond a call on as many nodes of the same kinds that has nothing to do: equal structures {}, against variables {}.",
+        own(&rows[2], &rows[0]),
+        own(&rows[3], &rows[1])
+    )
+    .unwrap();
     if let Some((equal, variables)) = prolog {
         writeln!(
             out,
-            "\nSWI-Prolog, `unify_with_occurs_check` on the same two structures: equal {equal:.1} µs, against variables {variables:.1} µs."
+            "SWI-Prolog's `unify_with_occurs_check` on the same: {equal:.1} µs, {variables:.1} µs."
         )
         .unwrap();
     }
