@@ -178,5 +178,53 @@ int main(void) {
     }
     node(0, 0);
     on_table("two structures of 510 applications, nested on the right", 510, 10);
+
+    begin();
+    node(9, 0);
+    node(10, 0);
+    node(3, 0);
+    for (int i = 0; i < 1020; i++) {
+        node(7, 0);
+        node(4, 1);
+    }
+    node(4, 1);
+    node(3, 0);
+    node(0, 0);
+    on_table("a value of 1,020 applications, nested on the right, bound", 1020, 10);
+
+    begin();
+    node(9, 0);
+    node(10, 0);
+    node(3, 0);
+    node(6, 0);
+    node(1, 0);
+    for (int i = 0; i < 2036; i++)
+        node(8, 0);
+    node(4, 1);
+    node(0, 0);
+    node(3, 0);
+    node(0, 0);
+    on_table("a closure of 2,036 nested fresh nodes, bound", 2036, 10);
+
+    /* x1 = c8 x0, x2 = c8 x1, ..: each value is looked at through the one before */
+    begin();
+    node(9, 0);
+    node(10, 0);
+    for (int i = 0; i < 290; i++)
+        node(7, 0);
+    node(4, 9);
+    for (uint16_t i = 290; i > 0; i--)
+        node(3, i);
+    for (int i = 0; i < 290; i++)
+        node(7, 0);
+    node(4, 9);
+    for (uint16_t i = 290; i > 0; i--) {
+        node(7, 0);
+        node(4, 8);
+        node(3, i - 1);
+    }
+    node(3, 290);
+    node(0, 0);
+    on_table("290 variables, each bound to a structure with the next", 290, 10);
     return 0;
 }
