@@ -41,7 +41,7 @@ module _ {n : ℕ} {t : List ℕ} {goal : ℕ} (g : Goal n t goal) where
   -- fresh links, and the identities of the two values
   module _ {links : List ℕ} {e a b : ℕ} (f : Fresh n t links) (h : Ends t (goal + 1) e) (p : a ≡ identityOf n t (goal + 1)) (q : b ≡ identityOf n t e) where
     fresh-linked : Linked vs n t links
-    fresh-linked = record { linked = λ i x m k. absurd (omega (arith, f .alone i x m)); right-part = λ i c d m k. f .right-part i c d m }
+    fresh-linked = record { linked = λ i x m k. absurd (omega (arith, f .alone i x m)) }
 
     first : Meant vs n t a
     first = record { tree = g .left-value; means = rw p (identity-means (g .worked) (g .left-value) (stand .0)); within = record { is-value = g .is-left; among = λ y u. or-left (uses y (g .left-value)) (uses y (g .right-value)) u } }

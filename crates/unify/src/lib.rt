@@ -1,4 +1,5 @@
 // Unification of two values of one thread, by classes: neither value is copied.
+pub mod ends;
 pub mod links;
 pub mod meet;
 pub mod sizes;
