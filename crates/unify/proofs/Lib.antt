@@ -5,6 +5,7 @@ pub mod Roots
 pub mod Squares
 pub mod Descents
 pub mod Meetings
+pub mod Leaves
 pub mod SetUps
 pub mod Endings
 pub mod Shortens
