@@ -1,20 +1,23 @@
 -- The two values of a goal, met on fresh links: what solves the goal is what respects the links, or nothing does. For the proof of `solve`.
 use mathlib.Core.Path.{_≡_, refl, sym, _∙_}
-use mathlib.Core.Bool.{Bool, true, false, _||_}
+use mathlib.Core.Bool.{Bool, true, _||_}
 use mathlib.Core.List.{List}
-use Prim.Native.Nat.{ℕ, _+_}
+use Prim.Native.Nat.{ℕ, _+_, _*_, _≤_, _<_}
 use native.Mathlib.Omega.{arith}
-use lib.ListN.{length}
+use lib.ListN.{length, set, length-set}
+use lib.Seq.{getD-set-same}
 use borrow.Author.Tests.{eq-eqb}
-use Rattle.calculus.specs.Tree.{term, unif, Tree, free, two, nodes, preorder, uses}
+use Rattle.calculus.specs.Tree.{Sort, term, program, unif, Tree, free, two, nodes, preorder, uses}
 use Rattle.calculus.specs.Unifier.{Substitution, Solves}
 use Rattle.calculus.proofs.Preorders.{preorder-injective}
-use Rattle.calculus.proofs.Substitutes.{either, or-left, or-right}
-use Rattle.table.specs.Nodes.{Stands, Ends}
-use Rattle.table.proofs.Trees.{see, moved}
+use Rattle.calculus.proofs.Substitutes.{impossible, either, or-left, or-right}
+use Rattle.table.specs.Nodes.{Stands, SomeTree, Ends}
+use Rattle.table.proofs.Trees.{see, program-at, one-tree, ends-in, moved}
 use Rattle.unify.specs.Classes.{Goal, Lent}
 use Rattle.unify.specs.Descent.{identityOf, Occurs, variable, Respects, Joined}
-use Rattle.unify.specs.Meeting.{Threaded, Room, Fresh, Within, Meant, Linked, Meets, Met, clashed}
+use Rattle.unify.specs.Meeting.{Threaded, Room, EndsKept, Fresh, Within, Meant, Linked, Met, clashed, TreesMeet, TreesMet, behind, apart}
+use Rattle.unify.specs.declared.meet.Passed.{Passed}
+use Rattle.unify.specs.declared.meet.Passed.the-variants.{Apart, Behind}
 use Rattle.unify.proofs.Places.{identity-means, occurs}
 use Rattle.unify.proofs.Descents.{sane, class-solves, merged-of}
 
@@ -25,6 +28,10 @@ goal-threaded g = record { thread = g .thread; worked = g .worked }
 -- the lent links, set up
 pub lent-room : {n : ℕ} {before after sizes : List ℕ} → Lent n before sizes → length after ≡ length before → Room n after
 lent-room l e = record { holds = rw e (l .links-hold); fits = l .numbers-fit }
+
+-- where the cell 0 is cleared no end is known
+pub none-known : {n : ℕ} {t links sizes : List ℕ} → Lent n links sizes → 0 < length sizes → EndsKept n t (set sizes 0 0)
+none-known {sizes = sizes} l h = record { holds = simp length-set (l .sizes-hold); known = λ k. absurd (omega (arith, getD-set-same sizes 0 0 0 h)) }
 
 own-variable : {vs : ℕ → Bool} (x : ℕ) → Within vs (free x) → vs x ≡ true
 unfolding uses
@@ -38,47 +45,88 @@ module _ {n : ℕ} {t : List ℕ} {goal : ℕ} (g : Goal n t goal) where
   stand : Stands t (goal + 1) (g .left-value) × Stands t (goal + 1 + nodes (g .left-value)) (g .right-value)
   stand = see (two unif (g .left-value) (g .right-value)) (g .stands) .parts-stand
 
-  -- fresh links, and the identities of the two values
-  module _ {links : List ℕ} {e a b : ℕ} (f : Fresh n t links) (h : Ends t (goal + 1) e) (p : a ≡ identityOf n t (goal + 1)) (q : b ≡ identityOf n t e) where
-    fresh-linked : Linked vs n t links
-    fresh-linked = record { linked = λ i x m k. absurd (omega (arith, f .alone i x m)) }
+  first-within : Within vs (g .left-value)
+  first-within = record { is-value = g .is-left; among = λ y u. or-left (uses y (g .left-value)) (uses y (g .right-value)) u }
 
-    first : Meant vs n t a
-    first = record { tree = g .left-value; means = rw p (identity-means (g .worked) (g .left-value) (stand .0)); within = record { is-value = g .is-left; among = λ y u. or-left (uses y (g .left-value)) (uses y (g .right-value)) u } }
+  second-within : Within vs (g .right-value)
+  second-within = record { is-value = g .is-right; among = λ y u. or-right (uses y (g .left-value)) (uses y (g .right-value)) u }
 
-    second : Meant vs n t b
-    second = record { tree = g .right-value; means = rw q (identity-means (g .worked) (g .right-value) (moved (sym (h .ends (g .left-value) (stand .0))) (stand .1))); within = record { is-value = g .is-right; among = λ y u. or-right (uses y (g .left-value)) (uses y (g .right-value)) u } }
+  first : Meant vs n t (identityOf n t (goal + 1))
+  first = record { tree = g .left-value; means = identity-means (g .worked) (g .left-value) (stand .0); within = first-within }
 
-    -- nothing is linked, so everything respects the links
-    fresh-respects : (τ : Substitution) → Respects n t links τ
-    fresh-respects τ = record { alike = λ i x y k m. absurd (omega (arith, f .alone i x m)) }
+  -- the left value stands behind the goal's node
+  pub goal-left : SomeTree t (goal + 1)
+  goal-left = record { sort = term; tree = g .left-value; stands = stand .0 }
 
-    -- the two values may meet
-    pub goal-meets : Room n links → Meets n t links a b
-    goal-meets r = record { threaded = goal-threaded g; room = r; variables = vs; linked = fresh-linked; first = first; second = second }
+  -- the goal ends in the thread
+  pub goal-inside : {e : ℕ} → Ends t goal e → 2 * e ≤ length t
+  goal-inside h = omega (arith, ends-in (g .stands), h .ends (two unif (g .left-value) (g .right-value)) (g .stands))
 
-    module _ {after : List ℕ} {r : Bool} (m : Met n t links after a b r) where
-      -- they have met
-      pub joined-of-goal : r ≡ true → Joined n t after (g .left-value) (g .right-value)
-      unfolding first second
-      joined-of-goal c =
-          let k = merged-of (rw c at m) in
-          let l = k .linked vs fresh-linked first second in
-          record {
-            sane = sane l;
-            respects = λ τ s. k .respects τ (g .left-value) (g .right-value) (first .means) (second .means) (fresh-respects τ) s;
-            solves = λ τ s. class-solves τ (sane l) s (k .one-class) (first .means) (second .means);
-            agree = λ i x y d s o u. k .agree i x y d (f .alone i x o) s o u;
-            moved = λ thread d x u s. either (uses x (g .left-value)) (uses x (g .right-value)) (own-variable x (l .linked (n + x) (free x) (variable x (there thread d x u) refl) s .0));
-          }
-        where
-          there : (thread : Tree term) → t ≡ preorder thread → (x : ℕ) → uses x thread ≡ true → Occurs n t x
-          there thread d x u = occurs (rw (preorder-injective thread (g .thread) (sym d ∙ g .worked .is)) (g .worked)) x u
+  -- the node after the left value
+  module _ {b : ℕ} (h : Ends t (goal + 1) b) where
+    right-stands : Stands t b (g .right-value)
+    right-stands = moved (sym (h .ends (g .left-value) (stand .0))) (stand .1)
 
-      -- they clash: nothing solves the goal
-      pub clash-of-goal : r ≡ false → (τ : Substitution) → Solves τ (g .left-value) (g .right-value) → ⊥
-      unfolding first second
-      clash-of-goal c τ s = go (rw c at m)
-        where
-          go : Met n t links after a b false → ⊥
-          go (clashed k) = k τ (g .left-value) (g .right-value) (first .means) (second .means) (fresh-respects τ) s
+    second : Meant vs n t (identityOf n t b)
+    second = record { tree = g .right-value; means = identity-means (g .worked) (g .right-value) right-stands; within = second-within }
+
+    -- the goal ends where its right value does
+    goal-end : {e : ℕ} → Ends t b e → Ends t goal e
+    unfolding nodes
+    goal-end {e} k = record { later = omega (arith, h .later, k .later); ends = end }
+      where
+        end : {s : Sort} (x : Tree s) → Stands t goal x → e ≡ goal + nodes x
+        end {s = term} x l = rw (one-tree x (two unif (g .left-value) (g .right-value)) l (g .stands)) (omega (arith, h .ends (g .left-value) (stand .0), k .ends (g .right-value) right-stands))
+        end {s = program} x l = absurd (program-at x 10 (see (two unif (g .left-value) (g .right-value)) (g .stands) .kind-is) l)
+
+    -- fresh links
+    module _ {links : List ℕ} (f : Fresh n t links) where
+      fresh-linked : Linked vs n t links
+      fresh-linked = record { linked = λ i x m k. absurd (omega (arith, f .alone i x m)) }
+
+      -- nothing is linked, so everything respects the links
+      fresh-respects : (τ : Substitution) → Respects n t links τ
+      fresh-respects τ = record { alike = λ i x y k m. absurd (omega (arith, f .alone i x m)) }
+
+      -- the two values may meet
+      pub goal-meets : Room n links → TreesMeet n t links (goal + 1) b
+      goal-meets r = record {
+        threaded = goal-threaded g;
+        room = r;
+        variables = vs;
+        linked = fresh-linked;
+        first = g .left-value;
+        second = g .right-value;
+        first-stands = stand .0;
+        second-stands = right-stands;
+        first-within = first-within;
+        second-within = second-within;
+      }
+
+      module _ {after : List ℕ} where
+        met-joined : Met n t links after (identityOf n t (goal + 1)) (identityOf n t b) true → Joined n t after (g .left-value) (g .right-value)
+        unfolding first second
+        met-joined m =
+            let k = merged-of m in
+            let l = k .linked vs fresh-linked first second in
+            record {
+              sane = sane l;
+              respects = λ τ s. k .respects τ (g .left-value) (g .right-value) (first .means) (second .means) (fresh-respects τ) s;
+              solves = λ τ s. class-solves τ (sane l) s (k .one-class) (first .means) (second .means);
+              agree = λ i x y d s o u. k .agree i x y d (f .alone i x o) s o u;
+              moved = λ thread d x u s. either (uses x (g .left-value)) (uses x (g .right-value)) (own-variable x (l .linked (n + x) (free x) (variable x (there thread d x u) refl) s .0));
+            }
+          where
+            there : (thread : Tree term) → t ≡ preorder thread → (x : ℕ) → uses x thread ≡ true → Occurs n t x
+            there thread d x u = occurs (rw (preorder-injective thread (g .thread) (sym d ∙ g .worked .is)) (g .worked)) x u
+
+        -- they have met, and the second of the nodes after them is the goal's end
+        pub goal-joined : {r : Passed} {i j : ℕ} → TreesMet n t links after (goal + 1) b r → r ≡ Behind i j → Joined n t after (g .left-value) (g .right-value) × Ends t goal j
+        goal-joined {j = j} (behind {j = o} m p q) e = let k : o ≡ j = cc in (met-joined m, rw k at (goal-end q))
+        goal-joined (apart m) e = impossible (cc)
+
+        -- they clash: nothing solves the goal
+        pub goal-clash : {r : Passed} → TreesMet n t links after (goal + 1) b r → r ≡ Apart → (τ : Substitution) → Solves τ (g .left-value) (g .right-value) → ⊥
+        unfolding first second
+        goal-clash (behind m p q) e τ s = impossible (cc)
+        goal-clash (apart (clashed k)) e τ s = k τ (g .left-value) (g .right-value) (first .means) (second .means) (fresh-respects τ) s
