@@ -5,6 +5,7 @@ pub mod Roots
 pub mod Squares
 pub mod Descents
 pub mod Meetings
+pub mod Walks
 pub mod SetUps
 pub mod Shortens
 pub mod Goals
