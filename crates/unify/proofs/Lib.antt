@@ -6,6 +6,7 @@ pub mod Squares
 pub mod Descents
 pub mod Meetings
 pub mod Leaves
+pub mod Walks
 pub mod SetUps
 pub mod Endings
 pub mod Shortens
