@@ -7,18 +7,18 @@ use native.Mathlib.Omega.{arith}
 use lib.ListN.{length, set, length-set}
 use lib.Seq.{getD-set-same}
 use borrow.Author.Tests.{eq-eqb}
-use Rattle.calculus.specs.Tree.{Sort, term, program, unif, Tree, free, two, nodes, preorder, uses}
+use Rattle.calculus.specs.Tree.{term, unif, Tree, free, two, nodes, preorder, uses}
 use Rattle.calculus.specs.Unifier.{Substitution, Solves}
 use Rattle.calculus.proofs.Preorders.{preorder-injective}
 use Rattle.calculus.proofs.Substitutes.{impossible, either, or-left, or-right}
 use Rattle.table.specs.Nodes.{Stands, SomeTree, Ends}
-use Rattle.table.proofs.Trees.{see, program-at, one-tree, ends-in, moved}
+use Rattle.table.proofs.Trees.{see, ends-in, moved}
 use Rattle.unify.specs.Classes.{Goal, Lent}
 use Rattle.unify.specs.Descent.{identityOf, Occurs, variable, Respects, Joined}
 use Rattle.unify.specs.Meeting.{Threaded, Room, EndsKept, Fresh, Within, Meant, Linked, Met, clashed, TreesMeet, TreesMet, behind, apart}
 use Rattle.unify.specs.declared.meet.Passed.{Passed}
 use Rattle.unify.specs.declared.meet.Passed.the-variants.{Apart, Behind}
-use Rattle.unify.proofs.Places.{identity-means, occurs}
+use Rattle.unify.proofs.Places.{identity-means, occurs, term-ends}
 use Rattle.unify.proofs.Descents.{sane, class-solves, merged-of}
 
 -- the goal's thread
@@ -73,11 +73,7 @@ module _ {n : ℕ} {t : List ℕ} {goal : ℕ} (g : Goal n t goal) where
     -- the goal ends where its right value does
     goal-end : {e : ℕ} → Ends t b e → Ends t goal e
     unfolding nodes
-    goal-end {e} k = record { later = omega (arith, h .later, k .later); ends = end }
-      where
-        end : {s : Sort} (x : Tree s) → Stands t goal x → e ≡ goal + nodes x
-        end {s = term} x l = rw (one-tree x (two unif (g .left-value) (g .right-value)) l (g .stands)) (omega (arith, h .ends (g .left-value) (stand .0), k .ends (g .right-value) right-stands))
-        end {s = program} x l = absurd (program-at x 10 (see (two unif (g .left-value) (g .right-value)) (g .stands) .kind-is) l)
+    goal-end k = term-ends (g .stands) (omega (arith, h .ends (g .left-value) (stand .0), k .ends (g .right-value) right-stands))
 
     -- fresh links
     module _ {links : List ℕ} (f : Fresh n t links) where
