@@ -29,6 +29,11 @@ abbrev pub Refuses : Refusals → Refusal → Type 0
 Refuses [] r = ⊥
 Refuses (c ∷ cs) r = (c .1 × (r ≡ c .0)) ⊎ ((c .1 → ⊥) × Refuses cs r)
 
+-- the condition of the number m holds
+abbrev pub Applies : Refusals → ℕ → Type 0
+Applies [] m = ⊥
+Applies (c ∷ cs) m = ((number (c .0) ≡ m) × c .1) ⊎ Applies cs m
+
 -- the front filled with exactly what is new, the rest as it was
 abbrev pub front : List ℕ → List ℕ → List ℕ
 front new old = new ++ drop (length new) old
