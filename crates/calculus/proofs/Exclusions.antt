@@ -16,7 +16,7 @@ use Rattle.calculus.specs.Reduction.{by-beta, by-fresh}
 use Rattle.calculus.specs.Step.{least-from, variable-for, location-for, rewriting, first, step-thread, Step, step, finished}
 use Rattle.calculus.specs.Run.{End, size, run-of, next-program, run}
 use Rattle.calculus.specs.Known.{only}
-use Rattle.calculus.specs.Sexp.{list, bytes}
+use Rattle.calculus.specs.Sexp.{list}
 use Rattle.calculus.specs.Text.{raw-empty, encode, raw, raw-text, text}
 use Rattle.calculus.specs.Calls.{TextOf, Reads, read}
 use Rattle.calculus.proofs.Texts.{text-injective, text-length}

@@ -1,7 +1,7 @@
 -- Document 01 (a): two outcomes that a call's contract allows coincide, the answer and every number of every lent buffer.
-use mathlib.Core.Path.{_≡_, refl, sym, ap, ap₂, _∙_, subst}
+use mathlib.Core.Path.{_≡_, refl, sym, ap, ap₂, _∙_}
 use mathlib.Core.List.{List, [], _∷_, _++_}
-use mathlib.Core.Option.{some, Option·some-injective}
+use mathlib.Core.Option.{Option·some-injective}
 use Prim.Native.Nat.{ℕ, _*_}
 use native.Mathlib.Omega.{arith}
 use lib.ListN.{length}
@@ -11,7 +11,7 @@ use Rattle.calculus.specs.Step.{Step, step, standing}
 use Rattle.calculus.specs.Run.{End, size, run, room-of}
 use Rattle.calculus.specs.Text.{text}
 use Rattle.calculus.specs.Answers.{number, standingCode, Values}
-use Rattle.calculus.specs.Calls.{Refusals, Accepts, Refuses, front, read-refusals, TextOf, Reads, read, refused, TableOf, write-refusals, Writes, written, not-written, StepsTo, step-refusals, StepsInto, stepped, not-stepped, run-refusals, end-table, ran-values, RunsWith, ran, not-run, thread-refusals, ThreadOf, StandsAt, stands, not-stood, nodes-before, PartAt, part, no-part}
+use Rattle.calculus.specs.Calls.{front, read-refusals, TextOf, Reads, read, refused, TableOf, write-refusals, Writes, written, not-written, StepsTo, step-refusals, StepsInto, stepped, not-stepped, run-refusals, end-table, ran-values, RunsWith, ran, not-run, thread-refusals, ThreadOf, StandsAt, stands, not-stood, nodes-before, PartAt, part, no-part}
 use Rattle.calculus.proofs.Preorders.{preorder-injective, threads-of-program}
 use Rattle.calculus.proofs.Texts.{text-injective}
 use Rattle.calculus.proofs.Refusals.{accepted-not-refused, one-refusal}

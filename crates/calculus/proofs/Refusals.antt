@@ -1,12 +1,12 @@
 -- The refusals of each call: which numbers, and that the lowest that applies is given.
 use mathlib.Core.Path.{_≡_, refl, sym, ap, _∙_}
-use mathlib.Core.Logic.{_⊎_, inl, inr}
+use mathlib.Core.Logic.{inl, inr}
 use mathlib.Core.List.{List, [], _∷_}
 use Prim.Native.Nat.{ℕ, _≤_, _<_}
 use native.Mathlib.Omega.{arith}
 use Rattle.calculus.specs.declared.Refusal.{Refusal}
 use Rattle.calculus.specs.Answers.{number}
-use Rattle.calculus.specs.Calls.{Refusals, Accepts, Refuses, read-refusals, write-refusals, step-refusals, run-refusals, thread-refusals}
+use Rattle.calculus.specs.Calls.{Refusals, Accepts, Refuses, Applies, read-refusals, write-refusals, step-refusals, run-refusals, thread-refusals}
 
 abbrev pub numbers : Refusals → List ℕ
 numbers [] = []
@@ -33,11 +33,6 @@ module _ (n : ℕ) (table : List ℕ) (count : ℕ) where
 abbrev pub Ascends : ℕ → Refusals → Type 0
 Ascends m [] = Unit {0}
 Ascends m (c ∷ cs) = (m < number (c .0)) × Ascends (number (c .0)) cs
-
--- the condition of the number m holds
-abbrev pub Applies : Refusals → ℕ → Type 0
-Applies [] m = ⊥
-Applies (c ∷ cs) m = ((number (c .0) ≡ m) × c .1) ⊎ Applies cs m
 
 -- each call's list ascends
 pub read-ascends : (n : ℕ) (b out : List ℕ) → Ascends 0 (read-refusals n b out)

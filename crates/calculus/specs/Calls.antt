@@ -13,7 +13,7 @@ use Rattle.calculus.specs.Good.{InRange, Closed, Coherent, All}
 use Rattle.calculus.specs.Step.{Step, step, standing}
 use Rattle.calculus.specs.Run.{End, size, run, holds-nodes, room-of}
 use Rattle.calculus.specs.Sexp.{one, Sexp, bytes}
-use Rattle.calculus.specs.Text.{Raw, raw, raw-text, text}
+use Rattle.calculus.specs.Text.{Raw, raw-text, text}
 use Rattle.calculus.specs.Answers.{number, reasonCode, standingCode, Values}
 
 abbrev pub Refusals : Type 1
@@ -28,6 +28,11 @@ Accepts (c ∷ cs) = (c .1 → ⊥) × Accepts cs
 abbrev pub Refuses : Refusals → Refusal → Type 0
 Refuses [] r = ⊥
 Refuses (c ∷ cs) r = (c .1 × (r ≡ c .0)) ⊎ ((c .1 → ⊥) × Refuses cs r)
+
+-- the condition of the number m holds
+abbrev pub Applies : Refusals → ℕ → Type 0
+Applies [] m = ⊥
+Applies (c ∷ cs) m = ((number (c .0) ≡ m) × c .1) ⊎ Applies cs m
 
 -- the front filled with exactly what is new, the rest as it was
 abbrev pub front : List ℕ → List ℕ → List ℕ

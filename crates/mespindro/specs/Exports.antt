@@ -1,6 +1,5 @@
 -- What the structs of the exported functions stand for: the same values as the calls' own answers.
 use mathlib.Core.List.{[], _∷_}
-use Prim.Native.Nat.{ℕ}
 use Rattle.calculus.specs.Answers.{Values}
 use Rattle.mespindro.specs.declared.exports.Count.{Count}
 use Rattle.mespindro.specs.declared.exports.Stop.{Stop}

@@ -7,14 +7,14 @@ use Prim.Native.Nat.{ℕ, _+_, _*_, _-_, _≤_, _<_}
 use native.Mathlib.Omega.{arith}
 use lib.ListN.{length, getD, take, drop, replicate, length-append, take-append-drop}
 use lib.Seq.{take-at, take-take}
-use Rattle.calculus.specs.Tree.{term, program, Tree, empty, alt, preorder, nodes, threads, program-of}
+use Rattle.calculus.specs.Tree.{term, program, Tree, empty, alt, preorder, nodes, threads, program-of, head-numbers}
 use Rattle.calculus.specs.Good.{Good}
 use Rattle.calculus.specs.Step.{finished, answer, standing}
 use Rattle.calculus.specs.Run.{End, size, run, room-of, finished-head}
 use Rattle.calculus.specs.Answers.{standingCode, Values}
 use Rattle.calculus.specs.Calls.{Accepts, TableOf, end-table, RunsWith, thread-refusals, ThreadOf, StandsAt, stands, not-stood}
 use Rattle.calculus.proofs.Substitutes.{impossible}
-use Rattle.calculus.proofs.Preorders.{nodes-positive, preorder-prefix, threads-of-program, program-of-threads, head-numbers, size-append, preorder-append, head-numbers-length}
+use Rattle.calculus.proofs.Preorders.{nodes-positive, preorder-prefix, threads-of-program, program-of-threads, size-append, preorder-append, head-numbers-length}
 use Rattle.calculus.proofs.Refusals.{accepted-not-refused}
 use Rattle.calculus.proofs.Outcomes.{table-of-unique}
 use Rattle.calculus.proofs.Runs.{program-run-only, finished-head-is, demand-three}

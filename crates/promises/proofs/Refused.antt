@@ -11,9 +11,9 @@ use Rattle.calculus.specs.Tree.{term, Tree, preorder, nodes, threads, program-o
 use Rattle.calculus.specs.Run.{Leads, stays, goes, size, next-program, run, holds-nodes, room-of}
 use Rattle.calculus.specs.Text.{text}
 use Rattle.calculus.specs.Answers.{number, Values}
-use Rattle.calculus.specs.Calls.{Refusals, Accepts, Refuses, front, read-refusals, Reads, read, refused, write-refusals, Writes, written, not-written, step-refusals, StepsInto, stepped, not-stepped, run-refusals, RunsWith, ran, not-run, thread-refusals, StandsAt, stands, not-stood, PartAt, part, no-part}
+use Rattle.calculus.specs.Calls.{Refusals, Accepts, Refuses, Applies, front, read-refusals, Reads, read, refused, write-refusals, Writes, written, not-written, step-refusals, StepsInto, stepped, not-stepped, run-refusals, RunsWith, ran, not-run, thread-refusals, StandsAt, stands, not-stood, PartAt, part, no-part}
 use Rattle.calculus.proofs.Preorders.{nodes-positive, preorder-length, program-of-threads}
-use Rattle.calculus.proofs.Refusals.{Ascends, Applies, read-ascends, write-ascends, step-ascends, run-ascends, thread-ascends, lowest, accepted-not-refused, one-refusal}
+use Rattle.calculus.proofs.Refusals.{Ascends, read-ascends, write-ascends, step-ascends, run-ascends, thread-ascends, lowest, accepted-not-refused, one-refusal}
 use Rattle.calculus.proofs.Runs.{program-run-is}
 use Rattle.table.specs.Threads.{ThreadPart}
 use Rattle.promises.specs.Exactly.{Exactly}

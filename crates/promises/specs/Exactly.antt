@@ -3,8 +3,7 @@ use mathlib.Core.Path.{_≡_}
 use Prim.Native.Nat.{ℕ, _≤_}
 use Rattle.calculus.specs.declared.Refusal.{Refusal}
 use Rattle.calculus.specs.Answers.{number}
-use Rattle.calculus.specs.Calls.{Refusals, Accepts, Refuses}
-use Rattle.calculus.proofs.Refusals.{Applies}
+use Rattle.calculus.specs.Calls.{Refusals, Accepts, Refuses, Applies}
 
 pub record Exactly (cs : Refusals) (refusal : ℕ) : Type 0 where
   -- refused with r's number exactly if r's is the first condition of the list that holds

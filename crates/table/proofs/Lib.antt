@@ -1,4 +1,5 @@
 -- Laws of the table.
+pub mod Sets
 pub mod Trees
 pub mod Spans
 pub mod Positions

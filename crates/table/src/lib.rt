@@ -1,6 +1,7 @@
 // The node table: two 16-bit numbers a node, kind and number, in preorder.
 pub mod check;
 pub mod closures;
+pub mod copy;
 pub mod names;
 pub mod nodes;
 pub mod threads;

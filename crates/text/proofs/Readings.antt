@@ -3,11 +3,10 @@ use mathlib.Core.Path.{_≡_, refl, ap, _∙_}
 use mathlib.Core.Logic.{inl, inr}
 use mathlib.Core.Bool.{Bool, true, false}
 use mathlib.Core.List.{List, [], _∷_}
-use Prim.Native.Nat.{ℕ, _+_, _*_, _/_, _≤_, _<_}
+use Prim.Native.Nat.{ℕ, _*_, _/_, _≤_, _<_}
 use native.Mathlib.Omega.{arith}
-use native.Mathlib.Numerals.{add-one}
-use lib.ListN.{length, getD, take, drop, set, length-set}
-use lib.Seq.{paste, paste-zero, paste-suc}
+use lib.ListN.{length, take, drop}
+use lib.Seq.{sets, slice}
 use Rattle.calculus.specs.declared.Refusal.{Refusal}
 use Rattle.calculus.specs.declared.Refusal.the-variants as refusal
 use Rattle.calculus.specs.Tree.{program, Tree, nodes, preorder, threads}
@@ -27,30 +26,7 @@ use Rattle.text.specs.Reading.{Parses, out, bad, loose, of-nodes}
 use Rattle.text.specs.declared.Parsed.{Parsed}
 use Rattle.text.specs.declared.Parsed.the-variants.{Out, Bad, Loose, Nodes}
 use Rattle.text.proofs.RoundTrip.{accepted, good-read}
-
--- The first i of n numbers are copied.
-pub record Copied (from : List ℕ) (n : ℕ) (before now : List ℕ) (i : ℕ) : Type 0 where
-  pub some : i ≤ n
-  pub long : length now ≡ length before
-  pub is : now ≡ paste before 0 from i
-
--- none of them
-pub copied-none : (from : List ℕ) (n : ℕ) (before : List ℕ) → Copied from n before before 0
-copied-none from n before = record { some = omega arith; long = refl; is = paste-zero before 0 from }
-
--- one more
-pub copied-more : {from : List ℕ} {n : ℕ} {before now : List ℕ} {i : ℕ} → Copied from n before now i → i < n → n ≤ length from → n ≤ length before → Copied from n before (set now i (getD from i 0)) (i + 1)
-copied-more {from} {n} {before} {now} {i} h l f r =
-    let e : i ≡ 0 + i = omega arith in
-    record {
-      some = omega arith;
-      long = simp length-set (h .long);
-      is = rw (h .is, add-one) (ap (λ (k : ℕ). set (paste before 0 from i) k (getD from i 0)) e ∙ paste-suc before 0 from i 0 (omega arith) (omega arith));
-    }
-
--- all of them
-pub copied-all : {from : List ℕ} {n : ℕ} {before now : List ℕ} {i : ℕ} → Copied from n before now i → n ≤ i → now ≡ paste before 0 from n
-copied-all {n = n} {i = i} h l = let e : n ≡ i = omega arith in rw e (h .is)
+use Rattle.text.proofs.Stored.{sets-front}
 
 -- a refused call's answer
 abbrev not-read : Refusal → Values
@@ -172,12 +148,11 @@ module _ {n : ℕ} {b build : List ℕ} {m : ℕ} (h : Loaded n b build m) where
         refused refusal.NoRoom (past-seven into refusal.NoRoom (inr ((λ f. only (h .parsed) (λ p. All Coherent (threads p) → ⊥) f c), inl ((this, (h .parsed .text-of, omega (arith, h .parsed .counts))), refl))))
 
     -- or it holds the nodes, and they are copied there
-    pub read-done : {into after : List ℕ} → n ≤ 65536 → m ≤ length into / 2 → after ≡ paste into 0 build (2 * m) → Reads n b into (accepted m) after
+    pub read-done : {into after : List ℕ} → n ≤ 65536 → m ≤ length into / 2 → after ≡ sets into 0 (slice 0 (2 * m) build) → Reads n b into (accepted m) after
     read-done {into} {after} l r e =
         let q = a .program-there in
         let t = a .table-of in
         let k = good-read (a .good) into l (omega (arith, t .counts)) in
-        let size : 0 + 2 * m ≡ length (preorder q) = omega (arith, preorder-length q, t .counts) in
-        let d : front (preorder q) into ≡ after = rw (e, size, t .is) in
+        let d : front (preorder q) into ≡ after = rw (e, t .is, sets-front (preorder q) into (omega (arith, preorder-length q, t .counts))) in
         let i : text q ≡ b = ap text same ∙ h .parsed .text-of .is in
         rw (i, t .counts, d) at k

@@ -21,7 +21,7 @@ use Rattle.text.specs.Writing.{CountedProgram, TextLength, RoomForText, 
 use Rattle.text.proofs.RoundTrip.{good-written}
 
 -- what is stored from the beginning on is the new front
-sets-front : (new old : List ℕ) → length new ≤ length old → sets old 0 new ≡ front new old
+pub sets-front : (new old : List ℕ) → length new ≤ length old → sets old 0 new ≡ front new old
 sets-front new old h = let e : 0 + length new ≡ length new = omega arith in sets-eq new old 0 (omega arith) ∙ rw e
 
 -- with scratch enough the limit that the caller asks for is in force

@@ -14,13 +14,13 @@ use Rattle.calculus.proofs.Preorders.{nodes-positive}
 use Rattle.table.specs.Nodes.{NodeIs, Stands}
 use Rattle.table.proofs.Trees.{kindOf, numberOf, Seen, see}
 use Rattle.text.specs.Writer.{DigitCount, tagBytes, numeral, numeralIf, numbered, tags, headBytes, spelt, Room, Wrote}
+use Rattle.table.proofs.Sets.{sets-append as one-after}
 
 -- Stores.
 
 -- one list behind the other
 pub sets-append : (l : List ℕ) (i : ℕ) (a b : List ℕ) → sets l i (a ++ b) ≡ sets (sets l i a) (i + length a) b
-sets-append l i [] b = ap (λ (j : ℕ). sets l j b) (omega arith)
-sets-append l i (x ∷ a) b = sets-append (set l i x) (suc i) a b ∙ ap (λ (j : ℕ). sets (sets (set l i x) (suc i) a) j b) (omega arith)
+sets-append l i a b = sym (one-after l i (i + length a) a b refl)
 
 -- the last one may as well be stored first
 sets-last : (l : List ℕ) (i : ℕ) (a : List ℕ) (x : ℕ) → sets l i (a ++ (x ∷ [])) ≡ sets (set l (i + length a) x) i a

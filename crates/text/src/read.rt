@@ -1,8 +1,6 @@
 // Text to table, with its refusals.
-ghost use mathlib.Core.Path.{_≡_};
 ghost use Prim.Native.Nat.{_+_, _*_, _≤_, _<_};
 ghost use lib.ListN.{length};
-ghost use lib.Seq.{paste};
 ghost use Rattle.calculus.specs.Answers.{countedValues};
 ghost use Rattle.calculus.specs.Calls.{Reads};
 use crate::Parsed;
@@ -12,19 +10,7 @@ use calculus::Refusal;
 use csexp::is_one;
 use table::Checked;
 use table::check::check;
-
-// Copies the first n numbers of a table to the front of another.
-fn copy(from: &[u16], n: usize, out: &mut [u16])
-    requires { ⌜ n ≤ length (now from) ⌝ }
-    requires { ⌜ n ≤ length (now out) ⌝ }
-    ensures { λ _. ⌜ now (out .exit) ≡ paste (now (out .entry)) 0 (now (from .entry)) n ⌝ }
-{
-    let mut i: usize = 0;
-    while i < n {
-        out[i] = from[i];
-        i += 1;
-    }
-}
+use table::copy::copy_nodes;
 
 // Reads a text into a table. The build table, the scratch and the goals are lent; the limit is the node limit.
 // It builds apart from the output, into which nothing may be written before the last refusal is decided.
@@ -63,6 +49,6 @@ pub fn read(
     if out.len() / 2 < nodes {
         return Counted::Refused(Refusal::NoRoom);
     }
-    copy(build, 2 * nodes, out);
+    copy_nodes(build, 0, nodes, out, 0);
     Counted::Count(nodes)
 }

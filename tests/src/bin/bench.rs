@@ -15,11 +15,12 @@ use std::path::Path;
 use std::process::Command;
 use std::time::{Duration, Instant};
 
-/// A run that is measured.
+/// A run that is measured; where the evaluator cannot take the input, the library alone.
 struct Case {
     name: &'static str,
     table: Vec<u16>,
     most: u32,
+    alone: bool,
 }
 
 /// What is found of one case: times of the whole call.
@@ -28,8 +29,15 @@ struct Row {
     nodes: usize,
     steps: u32,
     library: Duration,
-    evaluator: Duration,
+    evaluator: Option<Duration>,
     floor: Duration,
+}
+
+impl Row {
+    /// How many times the library is faster than the evaluator.
+    fn faster(&self) -> Option<f64> {
+        self.evaluator.map(|e| ratio(e, self.library))
+    }
 }
 
 fn main() {
@@ -53,7 +61,12 @@ fn measure_all() -> Vec<Row> {
 // ---- The inputs.
 
 fn cases() -> Vec<Case> {
-    let case = |name, table, most| Case { name, table, most };
+    let case = |name, table, most| Case {
+        name,
+        table,
+        most,
+        alone: false,
+    };
     let mut cases = vec![
         case(
             "a structure of 1,999 nodes: nothing to do",
@@ -107,7 +120,22 @@ fn cases() -> Vec<Case> {
             cases.push(case(name, table, 10_000));
         }
     }
+    cases.extend(alone_cases());
     cases
+}
+
+/// Inputs whose unifier no evaluator that copies can hold, or on which the library is slowest.
+fn alone_cases() -> Vec<Case> {
+    let case = |name, table| Case {
+        name,
+        table,
+        most: 1,
+        alone: true,
+    };
+    vec![
+        case("a doubling unifier, 255 levels", doubling(255)),
+        case("a chain of 499 variables, the last first", chain(499)),
+    ]
 }
 
 /// A program of one thread.
@@ -160,6 +188,14 @@ fn doubling(n: u16) -> Vec<u16> {
     left.push((4, 9));
     left.extend((1..=n).map(|i| (3, i)));
     one_thread(&goal(left, right))
+}
+
+/// Each variable against the next smaller one, from the last on: the links make one long chain.
+fn chain(n: u16) -> Vec<u16> {
+    one_thread(&goal(
+        structure(n, |i| (3, n - i)),
+        structure(n, |i| (3, n - i - 1)),
+    ))
 }
 
 /// `(g (u x0 cI) x0)` for each I.
@@ -242,7 +278,7 @@ fn least(mut prepare: impl FnMut(), mut call: impl FnMut(&mut dyn FnMut())) -> D
 fn measure(case: &Case) -> Row {
     let nodes = case.table.len() / 2;
     let (library, steps) = library_run(case);
-    let evaluator = evaluator_run(case);
+    let evaluator = (!case.alone).then(|| evaluator_run(case));
     Row {
         name: case.name.to_string(),
         nodes,
@@ -368,7 +404,7 @@ fn row(what: &str, text: &[u8], table: &[u16], library: Duration, evaluator: Dur
         nodes: table.len() / 2,
         steps: 0,
         library,
-        evaluator,
+        evaluator: Some(evaluator),
         floor: copy_floor(table.len() / 2),
     }
 }
@@ -422,13 +458,14 @@ fn report(rows: &[Row], prolog: &Option<(f64, f64)>) -> String {
     for row in rows {
         writeln!(
             out,
-            "| {} | {} | {} | {} | {} | {:.1} | {:.0} |",
+            "| {} | {} | {} | {} | {} | {} | {:.0} |",
             row.name,
             thousands(row.nodes),
             thousands(row.steps as usize),
             time(row.library),
-            time(row.evaluator),
-            ratio(row.evaluator, row.library),
+            row.evaluator.map_or("-".to_string(), time),
+            row.faster()
+                .map_or("-".to_string(), |faster| format!("{faster:.1}")),
             ratio(row.library, row.floor),
         )
         .unwrap();
@@ -454,10 +491,14 @@ fn report(rows: &[Row], prolog: &Option<(f64, f64)>) -> String {
 /// Bars of how many times faster the library is, on a scale of powers of ten.
 fn chart(rows: &[Row]) -> String {
     let (line, left, width) = (24, 380, 420.0);
-    let height = line * rows.len() + 50;
-    let most = rows
+    let bars: Vec<(&str, f64)> = rows
         .iter()
-        .map(|r| ratio(r.evaluator, r.library))
+        .filter_map(|row| Some((row.name.as_str(), row.faster()?)))
+        .collect();
+    let height = line * bars.len() + 50;
+    let most = bars
+        .iter()
+        .map(|bar| bar.1)
         .fold(10.0, f64::max)
         .log10()
         .ceil();
@@ -468,11 +509,10 @@ fn chart(rows: &[Row]) -> String {
         let x = left as f64 + width * power as f64 / most;
         writeln!(out, "<line x1=\"{x:.0}\" y1=\"28\" x2=\"{x:.0}\" y2=\"{}\" stroke=\"#ccc\"/>\n<text x=\"{x:.0}\" y=\"{}\" text-anchor=\"middle\" fill=\"#666\">{}</text>", height - 20, height - 6, 10u64.pow(power)).unwrap();
     }
-    for (i, row) in rows.iter().enumerate() {
-        let faster = ratio(row.evaluator, row.library);
+    for (i, (name, faster)) in bars.iter().enumerate() {
         let bar = (width * faster.log10() / most).max(1.0);
         let y = 34 + line * i;
-        writeln!(out, "<text x=\"{}\" y=\"{}\" text-anchor=\"end\">{}</text>\n<rect x=\"{left}\" y=\"{y}\" width=\"{bar:.0}\" height=\"16\" fill=\"#3a6ea5\"/>\n<text x=\"{:.0}\" y=\"{}\">{faster:.1}</text>", left - 8, y + 13, row.name, left as f64 + bar + 5.0, y + 13).unwrap();
+        writeln!(out, "<text x=\"{}\" y=\"{}\" text-anchor=\"end\">{}</text>\n<rect x=\"{left}\" y=\"{y}\" width=\"{bar:.0}\" height=\"16\" fill=\"#3a6ea5\"/>\n<text x=\"{:.0}\" y=\"{}\">{faster:.1}</text>", left - 8, y + 13, name, left as f64 + bar + 5.0, y + 13).unwrap();
     }
     out.push_str("</svg>\n");
     out

@@ -3,7 +3,7 @@ use mathlib.Core.Path.{sym, ap, _∙_}
 use mathlib.Core.List.{[], _∷_}
 use Prim.Native.Nat.{ℕ}
 use borrow.Author.Needs.{needs}
-use Rattle.calculus.specs.Answers.{Values, countedValues}
+use Rattle.calculus.specs.Answers.{countedValues}
 use Rattle.mespindro.proofs.exports.count_of.Statement.{statement}
 use Rattle.mespindro.proofs.exports.count_of.Tie as tie
 

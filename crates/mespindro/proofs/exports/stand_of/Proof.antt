@@ -3,7 +3,7 @@ use mathlib.Core.Path.{sym, ap, _∙_}
 use mathlib.Core.List.{[], _∷_}
 use Prim.Native.Nat.{ℕ}
 use borrow.Author.Needs.{needs}
-use Rattle.calculus.specs.Answers.{Values, stoodValues}
+use Rattle.calculus.specs.Answers.{stoodValues}
 use Rattle.mespindro.proofs.exports.stand_of.Statement.{statement}
 use Rattle.mespindro.proofs.exports.stand_of.Tie as tie
 

@@ -3,7 +3,7 @@ use mathlib.Core.Path.{sym, ap, _∙_}
 use mathlib.Core.List.{[], _∷_}
 use Prim.Native.Nat.{ℕ}
 use borrow.Author.Needs.{needs}
-use Rattle.calculus.specs.Answers.{Values, steppedValues}
+use Rattle.calculus.specs.Answers.{steppedValues}
 use Rattle.mespindro.proofs.exports.step_count_of.Statement.{statement}
 use Rattle.mespindro.proofs.exports.step_count_of.Tie as tie
 

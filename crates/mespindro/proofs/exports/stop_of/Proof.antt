@@ -3,7 +3,7 @@ use mathlib.Core.Path.{sym, ap, _∙_}
 use mathlib.Core.List.{[], _∷_}
 use Prim.Native.Nat.{ℕ}
 use borrow.Author.Needs.{needs}
-use Rattle.calculus.specs.Answers.{Values, ranValues}
+use Rattle.calculus.specs.Answers.{ranValues}
 use Rattle.mespindro.proofs.Told.{stopped-told}
 use Rattle.mespindro.proofs.exports.stop_of.Statement.{statement}
 use Rattle.mespindro.proofs.exports.stop_of.Tie as tie

@@ -140,11 +140,8 @@ same-length-14 c = search needs
 returns-8 : tie.Need-returns-8
 returns-8 c = let d = c .before .before .before .before .before in read-no-room (loaded d) (admitted-there (c .before .enum-told4 .given .1) (checked d)) (omega arith)
 
-mul-copy : tie.Need-mul-copy
-mul-copy c = search needs
-
-copy-requires : tie.Need-copy-requires
-copy-requires c κs = search needs
+copy-nodes-requires : tie.Need-copy-nodes-requires
+copy-nodes-requires c κs = search needs
 
 same-length-15 : tie.Need-same-length-15
 same-length-15 c = search needs
@@ -162,7 +159,7 @@ returns-9 : tie.Need-returns-9
 returns-9 c =
     let e = c .before .before .before .before .before in
     let d = e .before .before .before .before .before in
-    read-done (loaded d) (admitted-there (e .before .enum-told4 .given .1) (checked d)) (omega (arith, entry (after-parse (after-n d)) .pre)) (omega (arith, e .if4)) (c .before .before .copy .ensures)
+    read-done (loaded d) (admitted-there (e .before .enum-told4 .given .1) (checked d)) (omega (arith, entry (after-parse (after-n d)) .pre)) (omega (arith, e .if4)) (c .before .before .copy-nodes .ensures .1)
 
 pub read-spec : {M : Type 1} → statement M
 read-spec =
@@ -200,8 +197,7 @@ read-spec =
     same-length-13
     same-length-14
     returns-8
-    mul-copy
-    copy-requires
+    copy-nodes-requires
     same-length-15
     same-length-16
     same-length-17
