@@ -1,9 +1,11 @@
 /* Places tenants on ports: reads a rule set from a file (rules/leaf-48.csexp is one), runs it, and prints a line for each alternative of its
  * end.
  *
- *     cc -O2 examples/place.c target/native/libmespindro.a -o place && ./place rules/leaf-48.csexp
+ * tools/archive writes the archive for this machine:
  *
- * Its exit status is 0 where every alternative is a placement. A switch that is to be configured from this output must not go on otherwise.
+ *     tools/archive && cc -O2 examples/place.c target/native/libmespindro.a -o place && ./place rules/leaf-48.csexp
+ *
+ * Its exit status is 0 where there is an alternative and every one is a placement. A switch that is to be configured from this output must not go on otherwise.
  */
 #include <stdint.h>
 #include <stdio.h>
@@ -13,8 +15,8 @@
 /* The numbers of the rule sets in rules/. */
 enum { PLACEMENT = 3, PORTS = 5000, TENANTS = 6000, RANGE = 1000 };
 
-/* The node kinds that a placement is made of; a placement has seven nodes, the function before its argument. */
-enum { CONSTRUCTOR = 4, APPLICATION = 7, PLACEMENT_NODES = 7 };
+/* A placement has seven nodes, the function before its argument. */
+enum { PLACEMENT_NODES = 7 };
 
 enum { STEP_LIMIT = 10000 };
 
@@ -52,7 +54,10 @@ static unsigned plain(uint16_t constructor, unsigned base) {
 
 /* Is it (a (a (a PLACEMENT tenant) port) vlan), of constructors alone? Prints it then. */
 static int print_placement(const uint16_t *nodes, size_t length) {
-    static const uint16_t kinds[PLACEMENT_NODES] = {APPLICATION, APPLICATION, APPLICATION, CONSTRUCTOR, CONSTRUCTOR, CONSTRUCTOR, CONSTRUCTOR};
+    static const uint16_t kinds[PLACEMENT_NODES] = {
+        MESPINDRO_APPLICATION, MESPINDRO_APPLICATION, MESPINDRO_APPLICATION, MESPINDRO_CONSTRUCTOR,
+        MESPINDRO_CONSTRUCTOR, MESPINDRO_CONSTRUCTOR, MESPINDRO_CONSTRUCTOR,
+    };
     if (length != 2 * PLACEMENT_NODES) return 0;
     for (size_t i = 0; i < PLACEMENT_NODES; i++)
         if (nodes[2 * i] != kinds[i]) return 0;
@@ -73,12 +78,15 @@ static int print_thread(size_t k, uint16_t standing, struct mespindro_part part)
     }
 }
 
-/* Prints every thread of the program in the table; true where all are placements. */
+/* Prints every thread of the program in the table; true where there is one and all are placements. */
 static int print_threads(size_t nodes) {
     int all = 1;
     for (size_t k = 0;; k++) {
         struct mespindro_stand stand = mespindro_standing(table, MESPINDRO_TABLE, nodes, k);
-        if (stand.refusal == MESPINDRO_NO_THREAD) return all;
+        if (stand.refusal == MESPINDRO_NO_THREAD) {
+            if (k == 0) printf("no alternative is left: the request cannot be met\n");
+            return all && k > 0;
+        }
         if (stand.refusal != MESPINDRO_ACCEPTED) return refused("standing", stand.refusal);
         if (!print_thread(k, stand.standing, mespindro_thread(table, MESPINDRO_TABLE, nodes, k))) all = 0;
     }

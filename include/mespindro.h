@@ -1,16 +1,21 @@
-/* Mespindro: the evaluator of placement rules, as C sees it. Link libmespindro.a (rt staticlib mespindro writes it).
+/* Mespindro: the evaluator of placement rules, as C sees it. Link target/staticlib/libmespindro.a, which `rt staticlib mespindro` writes: x86-64
+ * Linux code with C's usual calling convention, which needs memcpy and memset and nothing else. tools/archive writes one for the machine at
+ * hand, target/native/libmespindro.a.
  *
  * A rule set is exchanged as a text, Rivest's canonical S-expressions; README.md has one. In memory a program is a table: two 16-bit numbers
  * a node, kind and number, in preorder. A table never leaves the process: write a text, send it, read it again.
  *
- * Nothing is allocated and nothing is kept between two calls. A call reads and writes only what it is lent: `const` pointers are read, the
- * others written; a length counts elements (bytes of a text, numbers of a table). The buffers of one call must not overlap. A buffer of
- * length 0 may be at any address but NULL, and a table is aligned as a uint16_t is.
+ * Nothing is allocated and nothing is kept between two calls; there is no static data. Calls may be made from several threads of execution at
+ * once, if no buffer that one of them writes is in use by another; a table that is only read may be shared.
  *
- * Every call ends, whatever the bytes, the numbers, the lengths and the limits are. It answers its result or a refusal's number, and then
- * its counts are 0 and nothing in the buffers has changed. Where several refusals apply the lowest is given. All of this is proved;
- * docs/PROMISES.md says where. What is not: the compiler's back end, the stack (docs/LIMITS.md has what each call needs), and that the
- * caller's pointers and lengths are true.
+ * What the caller owes, otherwise anything may happen: every pointer is valid for its length, and not NULL even where the length is 0; a
+ * uint16_t pointer is aligned to 2; no buffer has more than PTRDIFF_MAX bytes; the buffers of one call do not overlap (a step's output is not
+ * its table); there is enough stack (docs/LIMITS.md). A length counts elements: bytes of a text, numbers of a table. `const` buffers are read,
+ * the others written. Lengths above MESPINDRO_TABLE and odd lengths are allowed.
+ *
+ * Every call then ends, whatever bytes, numbers, counts and limits it is given. It gives its result, with `refusal` 0, or it is refused: then
+ * `refusal` is the lowest number that applies, every other field is 0, and no buffer has changed. This is proved (docs/PROMISES.md says
+ * where); not proved are the compiler's back end and what the caller owes.
  */
 #ifndef MESPINDRO_H
 #define MESPINDRO_H
@@ -22,10 +27,25 @@
 extern "C" {
 #endif
 
-/* A program has at most so many nodes, its text at most so many bytes; the numbers of a table for any program. */
+/* The most nodes of a program, the most bytes of its text, and the numbers of a table that holds every program. */
 #define MESPINDRO_NODES 2048
 #define MESPINDRO_TEXT 24576
 #define MESPINDRO_TABLE 4096
+
+/* Kinds: the first number of a node. The second one is 0 but where it is said. The parts follow in the table. */
+enum {
+    MESPINDRO_EMPTY = 0,        /* the end of a list of alternatives */
+    MESPINDRO_ALTERNATIVE = 1,  /* parts: a term, the rest of the list */
+    MESPINDRO_BOUND = 2,        /* number: the binders (kinds 5, 6, 8) between it and its own */
+    MESPINDRO_FREE = 3,         /* number: the variable, 0 to 2,047 */
+    MESPINDRO_CONSTRUCTOR = 4,  /* number: the constructor, 0 to 65,535; 0 is ok */
+    MESPINDRO_ABSTRACTION = 5,  /* part: a list of alternatives */
+    MESPINDRO_ALLOCATED = 6,    /* number: the location, 0 to 2,047; part: a list of alternatives */
+    MESPINDRO_APPLICATION = 7,  /* parts: two terms */
+    MESPINDRO_FRESH = 8,        /* part: a term */
+    MESPINDRO_GUARD = 9,        /* parts: two terms */
+    MESPINDRO_UNIFICATION = 10  /* parts: two terms */
+};
 
 /* Refusals. */
 enum {
@@ -52,7 +72,7 @@ enum {
 
 /* How a thread stands; 0 where the call was refused. */
 enum {
-    MESPINDRO_ANSWER = 1, /* a value: a placement, if it holds no free variable */
+    MESPINDRO_ANSWER = 1, /* a value, of any shape: look for kinds 3 and 6, and for the shape you expect, before you use it */
     MESPINDRO_STUCK = 2,  /* no rule applies, and it is no value */
     MESPINDRO_OPEN = 3    /* there is a step to make */
 };
@@ -87,18 +107,21 @@ struct mespindro_count mespindro_read(const uint8_t *text, size_t text_length, u
 /* Writes the text of the program in a table. 24,576 bytes hold every text. Refuses 1, 6, 8, 9. */
 struct mespindro_count mespindro_write(const uint16_t *table, size_t table_length, size_t count, uint8_t *out, size_t out_length);
 
-/* One step. Refuses 1, 6, 7, 8, 9, 11. */
+/* One step. Refuses 1, 6, 7, 8, 9, 11. The stack of a step and of a run grows with nesting, to several hundred kilobytes on the deepest
+ * programs of 2,048 nodes (docs/LIMITS.md); shorter tables bound it. */
 struct mespindro_count mespindro_step(const uint16_t *table, size_t table_length, size_t count, uint16_t *out, size_t out_length);
 
-/* Runs the program in a table for at most `most` steps, in the room that both tables hold. Accepted, the table holds the end program and then
- * zeros to its end, and the work table zeros only. Refuses 1, 6, 8, 9. */
+/* Runs the program in a table for at most `most` steps. Its room is the least of table_length / 2, work_length / 2 and 2,048 nodes. Accepted,
+ * the table holds the end program and then zeros to its very end, and the work table zeros only. A run that stopped by steps or by room goes
+ * on when it is called again with `nodes` as the count (after room: in larger tables). It cannot be interrupted: choose `most` so that a call
+ * is short enough. Refuses 1, 6, 8, 9. */
 struct mespindro_stop mespindro_run(uint16_t *table, size_t table_length, size_t count, uint16_t *work, size_t work_length, uint32_t most);
 
 /* How thread k stands, counted from 0. Refuses 1, 6, 8, 10. */
 struct mespindro_stand mespindro_standing(const uint16_t *table, size_t table_length, size_t count, size_t k);
 
-/* Where the nodes of thread k stand in the table, without its alternative node. Length 0 exactly where mespindro_standing refuses; that
- * call tells the number. */
+/* Where the nodes of thread k stand in the table, without its alternative node. Length 0, and start 0, exactly where mespindro_standing
+ * refuses; that call tells the number. */
 struct mespindro_part mespindro_thread(const uint16_t *table, size_t table_length, size_t count, size_t k);
 
 #ifdef __cplusplus

@@ -226,5 +226,31 @@ int main(void) {
     node(3, 290);
     node(0, 0);
     on_table("290 variables, each bound to a structure with the next", 290, 10);
+
+    /* x1 = c8 x0, x2 = c8 x1, .., the same for y, and at last x = y: each pair is met through the one before */
+    begin();
+    node(10, 0);
+    for (int i = 0; i < 2 * 169 + 1; i++)
+        node(7, 0);
+    node(4, 9);
+    for (uint16_t i = 1; i <= 169; i++) {
+        node(3, i);
+        node(3, 200 + i);
+    }
+    node(3, 169);
+    for (int i = 0; i < 2 * 169 + 1; i++)
+        node(7, 0);
+    node(4, 9);
+    for (uint16_t i = 1; i <= 169; i++) {
+        node(7, 0);
+        node(4, 8);
+        node(3, i - 1);
+        node(7, 0);
+        node(4, 8);
+        node(3, 200 + i - 1);
+    }
+    node(3, 200 + 169);
+    node(0, 0);
+    on_table("two chains of 169 variables that meet at their ends", 169, 10);
     return 0;
 }

@@ -1,7 +1,7 @@
 //! Places tenants on ports: reads a rule set from a file (rules/leaf-48.csexp is one), runs it, and prints a line for each alternative of its
 //! end. The same as examples/place.c, over the Rust binding.
 //!
-//! Its exit status is 0 where every alternative is a placement. A switch that is to be configured from this output must not go on otherwise.
+//! Its exit status is 0 where there is an alternative and every one is a placement. A switch that is to be configured from this output must not go on otherwise.
 
 use std::process::ExitCode;
 
@@ -79,17 +79,22 @@ fn print_thread(k: usize, standing: Standing, nodes: &[u16]) -> bool {
     false
 }
 
-/// Prints every thread of the program in the table; true where all are placements.
+/// Prints every thread of the program in the table; true where there is one and all are placements.
 fn print_threads(table: &[u16], count: usize) -> bool {
     let mut all = true;
-    for k in 0.. {
+    let mut k = 0;
+    loop {
         match binding::standing(table, count, k) {
             Ok(standing) => all &= print_thread(k, standing, binding::thread(table, count, k)),
             Err(Refusal::NoThread) => break,
             Err(refusal) => return refused("standing", refusal),
         }
+        k += 1;
     }
-    all
+    if k == 0 {
+        println!("no alternative is left: the request cannot be met");
+    }
+    all && k > 0
 }
 
 fn place(text: &[u8]) -> bool {

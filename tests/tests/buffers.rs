@@ -1,4 +1,4 @@
-//! The buffers of cases.md, group D.5: what each call leaves in lent memory.
+//! What each call leaves in lent memory.
 
 use mespindro_tests::binding::{self, Reason, Refusal, Standing, Stop};
 

@@ -309,7 +309,7 @@ fn many_threads() {
     compare_programs("many threads", &[threads, last]);
 }
 
-/// Document D(n) of cases.md: the value of `xi` has 2^(i+2) - 3 nodes.
+/// The tower D(n): the value of `xi` has 2^(i+2) - 3 nodes.
 fn doubling(first: u16, n: u16) -> (Vec<Term>, Vec<Term>) {
     let pair = |i| structure(8, [Term::Free(i), Term::Free(i)]);
     let left = (1..=n).map(|i| Term::Free(first + i)).collect();

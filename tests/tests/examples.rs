@@ -26,6 +26,13 @@ fn words(paths: &[&Path]) -> Vec<String> {
     paths.iter().map(|p| p.display().to_string()).collect()
 }
 
+/// A rule set that nothing meets: `((u c1 c2))`.
+fn impossible() -> PathBuf {
+    let file = folder().join("impossible.csexp");
+    std::fs::write(&file, "((1:u(1:c1:1)(1:c1:2)))").unwrap();
+    file
+}
+
 /// What place prints for a file of rules/, and its exit status.
 fn cases() -> Vec<(&'static str, String, i32)> {
     let lines = |lines: &[&str]| lines.iter().map(|line| format!("{line}\n")).collect();
@@ -73,7 +80,14 @@ fn check(place: impl Fn(&Path) -> Output) {
         assert_eq!(printed, *expected, "{file}");
         assert_eq!(output.status.code(), Some(*status), "{file}");
     }
-    println!("{} rule sets placed", cases.len());
+    let none = place(&impossible());
+    let printed = String::from_utf8_lossy(&none.stdout);
+    assert_eq!(
+        printed,
+        "no alternative is left: the request cannot be met\n"
+    );
+    assert_eq!(none.status.code(), Some(1));
+    println!("{} rule sets placed", cases.len() + 1);
 }
 
 #[test]

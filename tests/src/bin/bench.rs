@@ -177,7 +177,7 @@ fn variable_structure() -> Vec<u16> {
     ))
 }
 
-/// cases.md's D(n): the variable n has 2^(n+2) - 3 nodes.
+/// The tower D(n): the variable n has 2^(n+2) - 3 nodes.
 fn doubling(n: u16) -> Vec<u16> {
     let mut right = vec![(7, 0); n as usize];
     right.push((4, 9));
