@@ -22,6 +22,7 @@ fn limit_in_force(limit: usize, scratch: usize) -> usize
     if scratch < 2 {
         return 0;
     }
+    // identities are 16-bit numbers below twice the limit
     least(least(limit, 32766), scratch - 2)
 }
 

@@ -1,10 +1,12 @@
-// Coherence (8).
+// The second rule of coherence (8): one location, one body. The first is the walk's.
 ghost use mathlib.Core.Path.{_≡_};
 ghost use mathlib.Core.Bool.{true};
 ghost use Prim.Native.Nat.{ℕ, _≤_, _<_};
 ghost use lib.ListN.{length, getD};
 ghost use Rattle.table.specs.Checks.{IsThread, BodiesAgree, ProgramIn, ThreadsAgree};
 ghost use Rattle.table.specs.Marks.{numbered};
+use crate::kinds::ALLOCATED;
+use crate::kinds::EMPTY;
 use crate::nodes::end_of;
 use crate::nodes::node_at;
 use crate::nodes::same_bodies;
@@ -20,7 +22,7 @@ fn forget_locations(part: &[u16], limit: usize, first: &mut [u16])
     while i < end {
         let n = node_at(part, i);
         i += 1;
-        if n.kind == 6 {
+        if n.kind == ALLOCATED {
             let l = n.number as usize;
             first[l] = 0;
         }
@@ -40,7 +42,7 @@ pub fn bodies_agree(part: &[u16], limit: usize, first: &mut [u16]) -> bool
     while i < end {
         let n = node_at(part, i);
         i += 1;
-        if n.kind == 6 {
+        if n.kind == ALLOCATED {
             let l = n.number as usize;
             let f = first[l] as usize;
             if f == 0 {
@@ -63,7 +65,7 @@ pub fn threads_agree(t: &[u16], limit: usize, first: &mut [u16]) -> bool
     let mut at: usize = 0;
     loop {
         let n = node_at(t, at);
-        if n.kind == 0 {
+        if n.kind == EMPTY {
             return true;
         }
         let start = at + 1;

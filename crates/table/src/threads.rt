@@ -8,6 +8,7 @@ use crate::Checked;
 use crate::Place;
 use crate::Span;
 use crate::check::check;
+use crate::kinds::EMPTY;
 use crate::nodes::end_of;
 use crate::nodes::node_at;
 
@@ -20,7 +21,7 @@ pub fn place_of(t: &[u16], k: usize) -> Place
     let mut i: usize = 0;
     loop {
         let n = node_at(t, at);
-        if n.kind == 0 {
+        if n.kind == EMPTY {
             return Place::Missing;
         }
         let start = at + 1;

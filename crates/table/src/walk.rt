@@ -1,10 +1,21 @@
 // Is a program there (1), and has every index its binder (6, and the first rule of coherence)?
+// What is still to stand is a lent stack that grows down: 2 * the binders around it, and 1 more for a program.
 ghost use mathlib.Core.Path.{_≡_};
 ghost use Prim.Native.Nat.{_+_, _≤_, _<_};
 ghost use lib.ListN.{length};
 ghost use Rattle.table.specs.Checks.{Walks};
 ghost use Rattle.table.specs.Pending.{sort-where, may, PartsPut};
 use crate::Walked;
+use crate::kinds::ABSTRACTION;
+use crate::kinds::ALLOCATED;
+use crate::kinds::ALTERNATIVE;
+use crate::kinds::APPLICATION;
+use crate::kinds::BOUND;
+use crate::kinds::CONSTRUCTOR;
+use crate::kinds::FREE;
+use crate::kinds::FRESH;
+use crate::kinds::GUARD;
+use crate::kinds::UNIFICATION;
 use crate::nodes::Node;
 use crate::nodes::node_at;
 use crate::nodes::parts_of;
@@ -16,17 +27,15 @@ fn may_stand(n: Node, program: bool, limit: usize) -> bool
     let k = n.kind;
     let m = n.number as usize;
     if program {
-        return k < 2 && m == 0;
+        return k < BOUND && m == 0;
     }
     match k {
-        2 | 3 | 6 => m < limit,
-        4 => true,
-        5 | 7 | 8 | 9 | 10 => m == 0,
+        BOUND | FREE | ALLOCATED => m < limit,
+        CONSTRUCTOR => true,
+        ABSTRACTION | APPLICATION | FRESH | GUARD | UNIFICATION => m == 0,
         _ => false,
     }
 }
-
-// What is still to stand: 2 * binders around it, and 1 more for a program. The last put there is next.
 
 // Puts the parts of a node of the kind k, with d binders around it, on top; gives the new top. A place below the top is free: both are written.
 fn put_parts(pending: &mut [u16], top: usize, k: u16, d: u16, within: bool) -> usize
@@ -36,10 +45,10 @@ fn put_parts(pending: &mut [u16], top: usize, k: u16, d: u16, within: bool) -> u
     ensures { λ r. ⌜ PartsPut within d k top (now (pending .entry)) (now (pending .exit)) r ⌝ }
 {
     let last = match k {
-        1 => 2 * d + 1,
-        5 => 2 * d + 3,
-        6 => if within { 3 } else { 2 * d + 3 },
-        8 => 2 * d + 2,
+        ALTERNATIVE => 2 * d + 1,
+        ABSTRACTION => 2 * d + 3,
+        ALLOCATED => if within { 3 } else { 2 * d + 3 },
+        FRESH => 2 * d + 2,
         _ => 2 * d,
     };
     pending[top - 1] = last;
@@ -73,7 +82,7 @@ pub fn walk(t: &[u16], count: usize, limit: usize, within: bool, pending: &mut [
         if !may_stand(n, p % 2 == 1, limit) {
             return Walked::NoProgram;
         }
-        if k == 2 && d <= m {
+        if k == BOUND && d <= m {
             bound = false;
         }
         top = put_parts(pending, top + 1, k, d, within);
