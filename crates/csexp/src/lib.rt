@@ -32,14 +32,14 @@ fn longer(n: usize, digit: u8, most: usize) -> usize
     if most / 10 < n {
         most + 1
     } else {
-        10 * n + (digit - 48) as usize
+        10 * n + (digit - b'0') as usize
     }
 }
 
 fn is_digit(b: u8) -> bool
     ensures { λ r. ⌜ Digit b r ⌝ }
 {
-    48 <= b && b <= 57
+    b'0' <= b && b <= b'9'
 }
 
 // The atom whose length begins at a digit.
@@ -49,17 +49,17 @@ fn atom_at(s: &[u8], at: usize) -> Taken
 {
     let most = s.len();
     let first = s[at];
-    let mut n = (first - 48) as usize;
+    let mut n = (first - b'0') as usize;
     let mut i = at + 1;
     // a length that begins with 0 has no second digit
-    while first != 48 && i < most && is_digit(s[i]) {
+    while first != b'0' && i < most && is_digit(s[i]) {
         n = longer(n, s[i], most);
         i += 1;
     }
     if i == most {
         return Taken::Cut;
     }
-    if s[i] != 58 {
+    if s[i] != b':' {
         return Taken::Bad(i);
     }
     let place = i + 1;
@@ -85,10 +85,10 @@ impl Cursor {
             return Taken::Cut;
         }
         let b = s[at];
-        if b == 40 {
+        if b == b'(' {
             return Taken::Next(Item::Open, Cursor { at: at + 1 });
         }
-        if b == 41 {
+        if b == b')' {
             return Taken::Next(Item::Close, Cursor { at: at + 1 });
         }
         if is_digit(b) {

@@ -1,8 +1,10 @@
 -- The items that the grammar asks for, what a descent keeps of the nodes that it passes, where it leads, and what that says of the whole text.
 use mathlib.Core.Path.{_≡_, refl, sym, ap, _∙_}
+use mathlib.Core.Logic.{_⊎_, inl, inr}
 use mathlib.Core.Bool.{Bool, true, false, _&&_, or-false, or-true}
-use mathlib.Core.List.{List, [], _∷_, _++_, append-assoc, append-nil, tail-eq-of-cons-eq}
+use mathlib.Core.List.{List, [], _∷_, _++_, append-assoc, append-nil, head-eq-of-cons-eq, tail-eq-of-cons-eq}
 use Prim.Native.Nat.{ℕ, _+_, _-_, _*_, _/_, _≤_, _<_}
+use native.Mathlib.Numerals.{add-one}
 use native.Mathlib.Omega.{arith}
 use lib.Dec.{eqb, leb}
 use borrow.Author.Tests.{eqb-true, le-leb, lt-leb}
@@ -20,7 +22,7 @@ use Rattle.calculus.proofs.Preorders.{preorder-length}
 use Rattle.csexp.specs.declared.Cursor.{Cursor}
 use Rattle.csexp.specs.declared.Item.{Item}
 use Rattle.csexp.specs.declared.Item.the-variants.{Open, Close, Atom}
-use Rattle.csexp.specs.Items.{opening, closing, of-atom, Begins, itemBytes}
+use Rattle.csexp.specs.Items.{of-atom, Begins}
 use Rattle.csexp.proofs.Closings.{Took}
 use Rattle.text.specs.declared.numbers.Number.the-variants.{Bad, Is}
 use Rattle.text.specs.Numbers.{NumberIs}
@@ -43,36 +45,16 @@ impossible e = absurd (omega arith)
 
 -- Items.
 
-took-between : {s : List ℕ} {at next : ℕ} {i : Item} → Took s at i next → at < next → Between s at next (itemBytes s i)
-took-between t h = record { forward = h; within = t .within; here = t .here }
-
 no-bracket : (b r q : List ℕ) (k : ℕ) → k < 48 → bytes (atom b) ++ r ≡ k ∷ q → ⊥
 unfolding bytes
 no-bracket b r q k h e = decimal-first (length b) k _ q h (rw append-assoc at e)
 
 module _ {s : List ℕ} {at next : ℕ} where
-  -- an opening bracket is there
-  pub open-there : Took s at Open next → Between s at next (40 ∷ [])
-  open-there t = took-between t (omega (arith, t .placed))
-
-  -- a closing one
-  pub close-there : Took s at Close next → Between s at next (41 ∷ [])
-  close-there t = took-between t (omega (arith, t .placed))
-
   -- an atom is there
   pub atom-there : {place m : ℕ} → Took s at (Atom place m) next → AtomBetween s at place m next
-  atom-there t = record { fits = omega (arith, t .placed, t .within); between = took-between t (omega (arith, t .placed)) }
+  atom-there t = record { fits = omega (arith, t .placed, t .within); between = record { forward = omega (arith, t .placed); within = t .within; here = t .here } }
 
-  -- another item is there, so no bracket k
-  pub not-bracket : {i : Item} (k : ℕ) → k < 48 → Took s at i next → (i ≡ Open → k ≡ 40 → ⊥) → (i ≡ Close → k ≡ 41 → ⊥) → (r : List ℕ) → drop at s ≡ k ∷ r → ⊥
-  not-bracket {i} k h t f g r e = go i t f g
-    where
-      go : (i : Item) → Took s at i next → (i ≡ Open → k ≡ 40 → ⊥) → (i ≡ Close → k ≡ 41 → ⊥) → ⊥
-      go Open t f g = f refl (cc (t .here))
-      go Close t f g = g refl (cc (t .here))
-      go (Atom p m) t f g = no-bracket (take m (drop p s)) (drop next s) r k h (sym (t .here) ∙ e)
-
-  -- no atom
+  -- another item is there, so no atom
   pub not-atom : {i : Item} → Took s at i next → ((p m : ℕ) → i ≡ Atom p m → ⊥) → (b r : List ℕ) → drop at s ≡ bytes (atom b) ++ r → ⊥
   not-atom {i} t f b r e = go i t f
     where
@@ -81,17 +63,19 @@ module _ {s : List ℕ} {at next : ℕ} where
       go Close t f = no-bracket b r (drop next s) 41 (omega arith) (sym e ∙ t .here)
       go (Atom p m) t f = f p m refl
 
--- no item is there, so no opening bracket
-pub no-open : (l r : List ℕ) → (Begins l → ⊥) → l ≡ 40 ∷ r → ⊥
-no-open l r f e = f (record { item = 40 ∷ []; rest = r; is-item = opening; here = e })
-
--- no closing one
-pub no-close : (l r : List ℕ) → (Begins l → ⊥) → l ≡ 41 ∷ r → ⊥
-no-close l r f e = f (record { item = 41 ∷ []; rest = r; is-item = closing; here = e })
-
--- no atom
+-- no item is there, so no atom
 pub no-atom : (l b r : List ℕ) → (Begins l → ⊥) → l ≡ bytes (atom b) ++ r → ⊥
 no-atom l b r f e = f (record { item = bytes (atom b); rest = r; is-item = of-atom b; here = e })
+
+module _ (s : List ℕ) (at : ℕ) {k : ℕ} where
+  -- the bracket k is there
+  pub bracket-there : at < length s → getD s at 0 ≡ k → Between s at (at + 1) (k ∷ [])
+  bracket-there h e = record { forward = omega arith; within = omega arith; here = rw (drop-cons s at 0 h, e, add-one) }
+
+  -- another byte is there, or none
+  pub bracket-none : (getD s at 0 ≡ k → ⊥) ⊎ (length s ≤ at) → (r : List ℕ) → drop at s ≡ k ∷ r → ⊥
+  bracket-none (inl f) r e = f (head-eq-of-cons-eq (sym (drop-cons s at 0 (omega (arith, sym (length-drop at s) ∙ ap length e))) ∙ e))
+  bracket-none (inr h) r e = omega (arith, sym (length-drop at s) ∙ ap length e)
 
 module _ {s : List ℕ} {at mid : ℕ} (o : Between s at mid (40 ∷ [])) where
   behind-open : {l : List ℕ} → drop at s ≡ 40 ∷ l → drop mid s ≡ l

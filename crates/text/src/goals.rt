@@ -38,13 +38,12 @@ pub fn announced(tag: u8, w: Waiting, goals: &mut [u8]) -> Waiting
 {
     let top = w.top;
     let inside = w.binders + 1;
-    // v, x and c; l and L; n; a, g and u
     match tag {
-        118 | 120 | 99 => Waiting {
+        b'v' | b'x' | b'c' => Waiting {
             top: push(goals, top, CLOSE),
             binders: w.binders,
         },
-        108 | 76 => {
+        b'l' | b'L' => {
             let third = push(goals, top, CLOSE_BINDER);
             let second = push(goals, third, MEMBERS);
             Waiting {
@@ -52,7 +51,7 @@ pub fn announced(tag: u8, w: Waiting, goals: &mut [u8]) -> Waiting
                 binders: inside,
             }
         }
-        110 => {
+        b'n' => {
             let second = push(goals, top, CLOSE_BINDER);
             Waiting {
                 top: push(goals, second, TERM),

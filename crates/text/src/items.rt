@@ -1,5 +1,6 @@
 // What the grammar asks of the next items of a text. Each takes a cursor and hands the next one on.
 ghost use Rattle.text.specs.Descent.{FoundAt, AtomAt, TagAt};
+use crate::reading::item_from;
 use csexp::Cursor;
 use csexp::Item;
 use csexp::Taken;
@@ -10,24 +11,13 @@ pub enum Found {
     Behind(Cursor),
 }
 
-pub fn open_at(s: &[u8], c: Cursor) -> Found
-    ensures { λ r. ⌜ FoundAt 40 (now (s .entry)) (c .at) r ⌝ }
+// Behind the bracket b, where it is next.
+pub fn bracket_at(s: &[u8], c: Cursor, b: u8) -> Found
+    ensures { λ r. ⌜ FoundAt b (now (s .entry)) (c .at) r ⌝ }
 {
-    if let Taken::Next(i, next) = c.take(s) {
-        if let Item::Open = i {
-            return Found::Behind(next);
-        }
-    }
-    Found::No
-}
-
-pub fn close_at(s: &[u8], c: Cursor) -> Found
-    ensures { λ r. ⌜ FoundAt 41 (now (s .entry)) (c .at) r ⌝ }
-{
-    if let Taken::Next(i, next) = c.take(s) {
-        if let Item::Close = i {
-            return Found::Behind(next);
-        }
+    let at = c.at;
+    if at < s.len() && s[at] == b {
+        return Found::Behind(Cursor { at: at + 1 });
     }
     Found::No
 }
@@ -41,7 +31,7 @@ pub enum Atomic {
 pub fn atom_at(s: &[u8], c: Cursor) -> Atomic
     ensures { λ r. ⌜ AtomAt (now (s .entry)) (c .at) r ⌝ }
 {
-    if let Taken::Next(i, next) = c.take(s) {
+    if let Taken::Next(i, next) = item_from(s, c.at) {
         if let Item::Atom(place, n) = i {
             return Atomic::Of(place, n, next);
         }
@@ -58,7 +48,7 @@ pub enum Tag {
 pub fn tag_at(s: &[u8], c: Cursor) -> Tag
     ensures { λ r. ⌜ TagAt (now (s .entry)) (c .at) r ⌝ }
 {
-    let Found::Behind(c1) = open_at(s, c) else {
+    let Found::Behind(c1) = bracket_at(s, c, b'(') else {
         return Tag::No;
     };
     let Atomic::Of(place, n, c2) = atom_at(s, c1) else {

@@ -14,20 +14,21 @@ pub fn number_in(s: &[u8], place: usize, n: usize, below: usize) -> Number
     requires { ⌜ below ≤ 65536 ⌝ }
     ensures { λ r. ⌜ NumberIs (take n (drop place (now (s .entry)))) below r ⌝ }
 {
+    // no number below 65,536 has more than five digits
     if n == 0 || 5 < n {
         return Number::Bad;
     }
-    if s[place] == 48 && 1 < n {
+    if s[place] == b'0' && 1 < n {
         return Number::Bad;
     }
     let mut v: usize = 0;
     let mut i: usize = 0;
     while i < n {
         let b = s[place + i];
-        if b < 48 || 57 < b {
+        if b < b'0' || b'9' < b {
             return Number::Bad;
         }
-        v = 10 * v + (b - 48) as usize;
+        v = 10 * v + (b - b'0') as usize;
         i += 1;
     }
     if v < below {

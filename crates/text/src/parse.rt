@@ -18,12 +18,22 @@ use crate::items::Atomic;
 use crate::items::Found;
 use crate::items::Tag;
 use crate::items::atom_at;
-use crate::items::close_at;
-use crate::items::open_at;
+use crate::items::bracket_at;
 use crate::items::tag_at;
 use crate::numbers::Number;
 use crate::numbers::number_in;
 use csexp::Cursor;
+use table::kinds::ABSTRACTION;
+use table::kinds::ALLOCATED;
+use table::kinds::ALTERNATIVE;
+use table::kinds::APPLICATION;
+use table::kinds::BOUND;
+use table::kinds::CONSTRUCTOR;
+use table::kinds::EMPTY;
+use table::kinds::FREE;
+use table::kinds::FRESH;
+use table::kinds::GUARD;
+use table::kinds::UNIFICATION;
 use table::nodes::put_node;
 
 // What a descent has met: the nodes, and whether an N was bad or an index without its binder.
@@ -63,7 +73,7 @@ fn noted(m: Met, kind: u16, number: u16, build: &mut [u16]) -> Met
     more
 }
 
-// The N of a node of this kind, below its bound. An index, kind 2, has its binder among the d around it.
+// The N of a node of this kind, below its bound. An index has its binder among the d around it.
 fn numbered(
     s: &[u8],
     c: Cursor,
@@ -90,7 +100,7 @@ fn numbered(
         );
     };
     let q = noted(m, kind, v, build);
-    if kind == 2 && d <= v as usize {
+    if kind == BOUND && d <= v as usize {
         return Descent::To(
             next,
             Met {
@@ -108,17 +118,16 @@ fn head(s: &[u8], c: Cursor, m: Met, tag: u8, limit: usize, d: usize, build: &mu
     requires { ⌜ (limit < 65536) × (m .nodes + 1 ≤ c .at) × (c .at ≤ length (now s)) ⌝ }
     ensures { λ r. ⌜ Heads limit (now (s .entry)) d tag c m (now (build .entry)) r (now (build .exit)) ⌝ }
 {
-    // v, x and c; l, L and n; a, g and u
     match tag {
-        118 => numbered(s, c, m, 2, limit, d, build),
-        120 => numbered(s, c, m, 3, limit, d, build),
-        99 => numbered(s, c, m, 4, 65536, d, build),
-        108 => Descent::To(c, noted(m, 5, 0, build)),
-        76 => numbered(s, c, m, 6, limit, d, build),
-        110 => Descent::To(c, noted(m, 8, 0, build)),
-        97 => Descent::To(c, noted(m, 7, 0, build)),
-        103 => Descent::To(c, noted(m, 9, 0, build)),
-        117 => Descent::To(c, noted(m, 10, 0, build)),
+        b'v' => numbered(s, c, m, BOUND, limit, d, build),
+        b'x' => numbered(s, c, m, FREE, limit, d, build),
+        b'c' => numbered(s, c, m, CONSTRUCTOR, 65536, d, build),
+        b'l' => Descent::To(c, noted(m, ABSTRACTION, 0, build)),
+        b'L' => numbered(s, c, m, ALLOCATED, limit, d, build),
+        b'n' => Descent::To(c, noted(m, FRESH, 0, build)),
+        b'a' => Descent::To(c, noted(m, APPLICATION, 0, build)),
+        b'g' => Descent::To(c, noted(m, GUARD, 0, build)),
+        b'u' => Descent::To(c, noted(m, UNIFICATION, 0, build)),
         _ => Descent::Out,
     }
 }
@@ -139,10 +148,10 @@ fn begun(
     let Tag::Is(tag, next) = tag_at(s, c) else {
         return Turn::Out;
     };
-    let Descent::To(behind, q) = head(s, next, m, tag, limit, w.binders, build) else {
+    let Descent::To(after, q) = head(s, next, m, tag, limit, w.binders, build) else {
         return Turn::Out;
     };
-    Turn::To(behind, q, announced(tag, w, goals))
+    Turn::To(after, q, announced(tag, w, goals))
 }
 
 // The members of a program that are the next goal: its closing bracket, or a term before them.
@@ -159,21 +168,29 @@ fn member(
     requires { ⌜ Tops (now goals) (w .top) 1 ⌝ }
     ensures { λ r. ⌜ Advances limit (now (s .entry)) (waiting (drop (w .top) (now (goals .entry)))) c m (now (build .entry)) r (now (build .exit)) (now (goals .exit)) ⌝ }
 {
-    if let Found::Behind(next) = close_at(s, c) {
+    if let Found::Behind(next) = bracket_at(s, c, b')') {
         return Turn::To(
             next,
-            noted(m, 0, 0, build),
+            noted(m, EMPTY, 0, build),
             Waiting {
                 top: w.top + 1,
                 binders: w.binders,
             },
         );
     }
-    begun(s, c, noted(m, 1, 0, build), w, limit, build, goals)
+    begun(
+        s,
+        c,
+        noted(m, ALTERNATIVE, 0, build),
+        w,
+        limit,
+        build,
+        goals,
+    )
 }
 
 // Behind a bracket, where there is one.
-fn passed(found: Found, m: Met, w: Waiting) -> Turn
+fn behind(found: Found, m: Met, w: Waiting) -> Turn
     ensures { λ r. ⌜ r ≡ passed found m w ⌝ }
 {
     let Found::Behind(next) = found else {
@@ -204,10 +221,10 @@ fn advance(
     match goals[top] {
         TERM => begun(s, c, m, rest, limit, build, goals),
         MEMBERS => member(s, c, m, w, limit, build, goals),
-        OPEN => passed(open_at(s, c), m, rest),
-        CLOSE => passed(close_at(s, c), m, rest),
-        _ => passed(
-            close_at(s, c),
+        OPEN => behind(bracket_at(s, c, b'('), m, rest),
+        CLOSE => behind(bracket_at(s, c, b')'), m, rest),
+        _ => behind(
+            bracket_at(s, c, b')'),
             m,
             Waiting {
                 top: top + 1,

@@ -12,6 +12,9 @@ use table::Checked;
 use table::check::check;
 use table::copy::copy_nodes;
 
+// The text of a program has at most so many bytes for each of its nodes.
+const BYTES_PER_NODE: usize = 12;
+
 // Reads a text into a table. The build table, the scratch and the goals are lent; the limit is the node limit.
 // It builds apart from the output, into which nothing may be written before the last refusal is decided.
 pub fn read(
@@ -28,7 +31,7 @@ pub fn read(
     requires { ⌜ 12 * limit + 2 ≤ length (now goals) ⌝ }
     ensures { λ r. ⌜ Reads limit (now (text .entry)) (now (out .entry)) (countedValues r) (now (out .exit)) ⌝ }
 {
-    if 12 * limit < text.len() {
+    if BYTES_PER_NODE * limit < text.len() {
         return Counted::Refused(Refusal::TooLong);
     }
     if !is_one(text) {

@@ -1,4 +1,4 @@
-// Table to text. Of the bytes 40 and 41 are the brackets, 48 the digit 0, 58 the colon.
+// Table to text.
 ghost use mathlib.Core.Path.{_≡_};
 ghost use mathlib.Core.Bool.{false};
 ghost use mathlib.Core.List.{[], _∷_};
@@ -6,6 +6,11 @@ ghost use Prim.Native.Nat.{_<_};
 ghost use lib.ListN.{length, getD};
 ghost use Rattle.text.specs.Writing.{CountedProgram, TextLength, RoomForText, CellsForText, TextWritten};
 ghost use Rattle.text.specs.Writer.{DigitCount, numbered, NodeBytes, tagBytes, numeral, headBytes, Room, Wrote, Pushed, Asked, Put};
+use table::kinds::ABSTRACTION;
+use table::kinds::ALTERNATIVE;
+use table::kinds::APPLICATION;
+use table::kinds::EMPTY;
+use table::kinds::FRESH;
 use table::nodes::node_at;
 
 // How many digits the plain decimal of a number has.
@@ -25,14 +30,13 @@ fn digits(n: u16) -> usize
     }
 }
 
-// By kind, as TAGS.
+// By kind: whether it has a number. From kind 7 on none has.
 const NUMBERED: [bool; 7] = [false, false, true, true, true, false, true];
 
-// Whether a node of the kind has a number.
 fn has_number(kind: u16) -> bool
     ensures { λ r. ⌜ r ≡ getD numbered kind false ⌝ }
 {
-    if kind < 7 {
+    if kind < APPLICATION {
         NUMBERED[kind as usize]
     } else {
         false
@@ -43,10 +47,10 @@ fn has_number(kind: u16) -> bool
 fn node_bytes(kind: u16, number: u16) -> usize
     ensures { λ r. ⌜ NodeBytes kind number r ⌝ }
 {
-    if kind == 0 {
+    if kind == EMPTY {
         return 2;
     }
-    if kind == 1 {
+    if kind == ALTERNATIVE {
         return 0;
     }
     if has_number(kind) {
@@ -72,7 +76,7 @@ pub fn text_length(t: &[u16], count: usize) -> usize
 }
 
 // Where writing has come to: the next node, the next byte of the output, and the cells on the stack.
-pub struct Place {
+pub struct Progress {
     pub node: usize,
     pub byte: usize,
     pub cells: usize,
@@ -92,9 +96,9 @@ fn put_tag(out: &mut [u8], to: usize, tag: u8) -> usize
     requires { ⌜ Room (now out) to (tagBytes tag) ⌝ }
     ensures { λ r. ⌜ Wrote (now (out .entry)) (now (out .exit)) to r (tagBytes tag) ⌝ }
 {
-    let a = put(out, to, 40);
-    let b = put(out, a, 49);
-    let c = put(out, b, 58);
+    let a = put(out, to, b'(');
+    let b = put(out, a, b'1');
+    let c = put(out, b, b':');
     put(out, c, tag)
 }
 
@@ -104,20 +108,20 @@ pub fn put_number(out: &mut [u8], to: usize, n: u16) -> usize
     ensures { λ r. ⌜ Wrote (now (out .entry)) (now (out .exit)) to r (numeral n) ⌝ }
 {
     let d = digits(n);
-    let a = put(out, to, 48 + d as u8);
-    let b = put(out, a, 58);
+    let a = put(out, to, b'0' + d as u8);
+    let b = put(out, a, b':');
     let mut left = n;
     let mut i = b + d;
     while b < i {
         i -= 1;
-        out[i] = 48 + (left % 10) as u8;
+        out[i] = b'0' + (left % 10) as u8;
         left /= 10;
     }
     b + d
 }
 
-// By kind: v x c, l L, a n g u. A program has no tag.
-const TAGS: [u8; 11] = [0, 0, 118, 120, 99, 108, 76, 97, 110, 103, 117];
+// By kind. A program has no tag.
+const TAGS: [u8; 11] = [0, 0, b'v', b'x', b'c', b'l', b'L', b'a', b'n', b'g', b'u'];
 
 // What a term of the kind begins with: bracket, tag and, where it has one, its number.
 fn put_head(out: &mut [u8], to: usize, kind: u16, number: u16) -> usize
@@ -158,37 +162,38 @@ fn put_term(
     to: usize,
     stack: &mut [u16],
     cells: usize,
-) -> Place
+) -> Progress
     requires { ⌜ Asked 0 (now t) at (now out) to (now stack) cells ⌝ }
     ensures { λ r. ⌜ Put 0 (now (t .entry)) at (now (out .entry)) to (now (stack .entry)) cells (now (out .exit)) (now (stack .exit)) (r .node) (r .byte) (r .cells) ⌝ }
 {
     let n = node_at(t, at);
     let node = at + 1;
     let byte = put_head(out, to, n.kind, n.number);
-    if n.kind < 5 {
-        return Place {
+    // variables and constructors have no part, the two abstractions a program, a fresh a term, the others two terms
+    if n.kind < ABSTRACTION {
+        return Progress {
             node: node,
-            byte: put(out, byte, 41),
+            byte: put(out, byte, b')'),
             cells: cells,
         };
     }
     let close = push(stack, cells, CLOSE);
-    if n.kind < 7 {
-        return Place {
+    if n.kind < APPLICATION {
+        return Progress {
             node: node,
-            byte: put(out, byte, 40),
+            byte: put(out, byte, b'('),
             cells: push(stack, close, REST),
         };
     }
     let last = push(stack, close, TERM);
-    if n.kind == 8 {
-        return Place {
+    if n.kind == FRESH {
+        return Progress {
             node: node,
             byte: byte,
             cells: last,
         };
     }
-    Place {
+    Progress {
         node: node,
         byte: byte,
         cells: push(stack, last, TERM),
@@ -204,7 +209,7 @@ fn put_piece(
     to: usize,
     stack: &mut [u16],
     cells: usize,
-) -> Place
+) -> Progress
     requires { ⌜ Asked cell (now t) at (now out) to (now stack) cells ⌝ }
     ensures { λ r. ⌜ Put cell (now (t .entry)) at (now (out .entry)) to (now (stack .entry)) cells (now (out .exit)) (now (stack .exit)) (r .node) (r .byte) (r .cells) ⌝ }
 {
@@ -212,18 +217,18 @@ fn put_piece(
         return put_term(t, at, out, to, stack, cells);
     }
     if cell == CLOSE {
-        return Place {
+        return Progress {
             node: at,
-            byte: put(out, to, 41),
+            byte: put(out, to, b')'),
             cells: cells,
         };
     }
     let n = node_at(t, at);
     let next = at + 1;
-    if n.kind == 0 {
-        return Place {
+    if n.kind == EMPTY {
+        return Progress {
             node: next,
-            byte: put(out, to, 41),
+            byte: put(out, to, b')'),
             cells: cells,
         };
     }
@@ -238,7 +243,7 @@ pub fn put_text(t: &[u16], out: &mut [u8], stack: &mut [u16])
     ensures { λ _. ⌜ TextWritten (now (t .entry)) (now (out .entry)) (now (out .exit)) ⌝ }
 {
     let mut node: usize = 0;
-    let mut byte = put(out, 0, 40);
+    let mut byte = put(out, 0, b'(');
     let mut cells = push(stack, 0, REST);
     while 0 < cells {
         let top = cells - 1;

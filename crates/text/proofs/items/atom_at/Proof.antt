@@ -7,8 +7,8 @@ use Rattle.text.proofs.Descents.{atom-there, not-atom, no-atom}
 use Rattle.text.proofs.items.atom_at.Statement.{statement}
 use Rattle.text.proofs.items.atom_at.Tie as tie
 
-take-requires : tie.Need-take-requires
-take-requires c κs = search needs
+item-from-requires : tie.Need-item-from-requires
+item-from-requires c κs = search needs
 
 enum-known-i : tie.Need-enum-known-i
 enum-known-i c = search needs
@@ -17,13 +17,13 @@ enum-known-i-2 : tie.Need-enum-known-i-2
 enum-known-i-2 c = search needs
 
 returns : tie.Need-returns
-returns c = atom-there (rw (c .before .i2 .given .1) at (item-taken (c .before .before .before .before .before .before .take .ensures) _ _ (c .before .before .before .before .i .given .1)))
+returns c = atom-there (rw (c .before .i2 .given .1) at (item-taken (c .before .before .before .before .before .before .item-from .ensures) _ _ (c .before .before .before .before .i .given .1)))
 
 returns-2 : tie.Need-returns-2
-returns-2 c = not-atom (item-taken (c .before .before .before .before .take .ensures) _ _ (c .before .before .i .given .1)) (λ p m e. ⊎-elim (λ w. omega (arith, w)) (λ w. omega (arith, w)) (rw e at (c .match2 .keys2)))
+returns-2 c = not-atom (item-taken (c .before .before .before .before .item-from .ensures) _ _ (c .before .before .i .given .1)) (λ p m e. ⊎-elim (λ w. omega (arith, w)) (λ w. omega (arith, w)) (rw e at (c .match2 .keys2)))
 
 returns-3 : tie.Need-returns-3
-returns-3 c b r = no-atom _ b r (none-taken (c .before .take .ensures) (λ i k e. ⊎-elim (λ w. omega (arith, w)) (λ w. omega (arith, w)) (rw e at (c .match .keys2))))
+returns-3 c b r = no-atom _ b r (none-taken (c .before .item-from .ensures) (λ i k e. ⊎-elim (λ w. omega (arith, w)) (λ w. omega (arith, w)) (rw e at (c .match .keys2))))
 
 pub atom-at-spec : {M : Type 1} → statement M
-atom-at-spec = tie.close (tie.spec take-requires enum-known-i enum-known-i-2 returns returns-2 returns-3)
+atom-at-spec = tie.close (tie.spec item-from-requires enum-known-i enum-known-i-2 returns returns-2 returns-3)

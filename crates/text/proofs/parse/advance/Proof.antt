@@ -18,20 +18,20 @@ begun-requires c κs = term-ready (c .before .before .before .before .before .be
 member-requires : tie.Need-member-requires
 member-requires c κs = search needs
 
-open-at-requires : tie.Need-open-at-requires
-open-at-requires c κs = search needs
+bracket-at-requires : tie.Need-bracket-at-requires
+bracket-at-requires c κs = search needs
 
-passed-requires : tie.Need-passed-requires
-passed-requires c κs = search needs
+behind-requires : tie.Need-behind-requires
+behind-requires c κs = search needs
 
-close-at-requires : tie.Need-close-at-requires
-close-at-requires c κs = search needs
+bracket-at-requires-2 : tie.Need-bracket-at-requires-2
+bracket-at-requires-2 c κs = search needs
 
-passed-requires-2 : tie.Need-passed-requires-2
-passed-requires-2 c κs = search needs
+behind-requires-2 : tie.Need-behind-requires-2
+behind-requires-2 c κs = search needs
 
-close-at-requires-2 : tie.Need-close-at-requires-2
-close-at-requires-2 c κs = search needs
+bracket-at-requires-3 : tie.Need-bracket-at-requires-3
+bracket-at-requires-3 c κs = search needs
 
 add-t26 : tie.Need-add-t26
 add-t26 c = search needs
@@ -39,8 +39,8 @@ add-t26 c = search needs
 sub-t27 : tie.Need-sub-t27
 sub-t27 c = let e = next-end (c .before .before .before .before .before .before .before .args .goals .now) (c .before .before .before .before .before .before .before .args .w .top) (c .before .before .before .before .before .before .before .pre .1) (other-goal _ (c .before .before .match .rest)) .1 in omega (arith, c .before .before .before .before .before .before .before .pre .0 .stacked .binds)
 
-passed-requires-3 : tie.Need-passed-requires-3
-passed-requires-3 c κs = search needs
+behind-requires-3 : tie.Need-behind-requires-3
+behind-requires-3 c κs = search needs
 
 same-length : tie.Need-same-length
 same-length c = search needs
@@ -61,13 +61,13 @@ returns-2 : tie.Need-returns-2
 returns-2 c = c .before .before .before .before .member .ensures
 
 returns-3 : tie.Need-returns-3
-returns-3 c = rw (c .passed .ensures) (next-open (c .before .before .before .before .before .before .before .pre .0) (c .before .open-at .result) (record { on = c .before .before .before .before .before .before .before .pre .1; is = c .before .before .match .keys3 }) (c .before .open-at .ensures))
+returns-3 c = rw (c .behind .ensures) (next-open (c .before .before .before .before .before .before .before .pre .0) (c .before .bracket-at .result) (record { on = c .before .before .before .before .before .before .before .pre .1; is = c .before .before .match .keys3 }) (c .before .bracket-at .ensures))
 
 returns-4 : tie.Need-returns-4
-returns-4 c = rw (c .passed2 .ensures) (next-close (c .before .before .before .before .before .before .before .pre .0) (c .before .close-at .result) (record { on = c .before .before .before .before .before .before .before .pre .1; is = c .before .before .match .keys4 }) (c .before .close-at .ensures))
+returns-4 c = rw (c .behind2 .ensures) (next-close (c .before .before .before .before .before .before .before .pre .0) (c .before .bracket-at2 .result) (record { on = c .before .before .before .before .before .before .before .pre .1; is = c .before .before .match .keys4 }) (c .before .bracket-at2 .ensures))
 
 returns-5 : tie.Need-returns-5
-returns-5 c = rw (c .passed3 .ensures) (next-end-close (c .before .before .before .before .before .before .before .before .pre .0) (c .before .before .close-at2 .result) (c .before .before .before .before .before .before .before .before .pre .1) (other-goal _ (c .before .before .before .match .rest)) (c .before .before .close-at2 .ensures))
+returns-5 c = rw (c .behind3 .ensures) (next-end-close (c .before .before .before .before .before .before .before .before .pre .0) (c .before .before .bracket-at3 .result) (c .before .before .before .before .before .before .before .before .pre .1) (other-goal _ (c .before .before .before .match .rest)) (c .before .before .bracket-at3 .ensures))
 
 pub advance-spec : {M : Type 1} → statement M
 advance-spec =
@@ -77,14 +77,14 @@ advance-spec =
     slice-read-match
     begun-requires
     member-requires
-    open-at-requires
-    passed-requires
-    close-at-requires
-    passed-requires-2
-    close-at-requires-2
+    bracket-at-requires
+    behind-requires
+    bracket-at-requires-2
+    behind-requires-2
+    bracket-at-requires-3
     add-t26
     sub-t27
-    passed-requires-3
+    behind-requires-3
     same-length
     same-length-2
     returns

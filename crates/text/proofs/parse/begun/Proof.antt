@@ -27,8 +27,8 @@ returns c = term-none (rw (c .enum-told .given .1) at (c .before .before .tag-at
 head-requires : tie.Need-head-requires
 head-requires c κs = let h = there (c .before) in omega (arith, c .before .before .before .before .before .before .before .before .pre)
 
-enum-known-behind : tie.Need-enum-known-behind
-enum-known-behind c = search needs
+enum-known-after : tie.Need-enum-known-after
+enum-known-after c = search needs
 
 enum-told-2 : tie.Need-enum-told-2
 enum-told-2 c = search needs
@@ -49,7 +49,7 @@ same-length-3 : tie.Need-same-length-3
 same-length-3 c = search needs
 
 returns-3 : tie.Need-returns-3
-returns-3 c = term-turn (there (c .before .before .before .before .before .before .before .before .before .before .before) .1) (c .before .before .before .before .before .before .before .before .before .before .before .before .before .before .before .before .before .before .pre) (c .before .before .before .before .before .before .before .before .before .head .ensures) (c .before .before .before .before .before .behind .given .1) (c .before .before .announced .ensures) (c .before .before .announced .kept .1 .1 .0)
+returns-3 c = term-turn (there (c .before .before .before .before .before .before .before .before .before .before .before) .1) (c .before .before .before .before .before .before .before .before .before .before .before .before .before .before .before .before .before .before .pre) (c .before .before .before .before .before .before .before .before .before .head .ensures) (c .before .before .before .before .before .after .given .1) (c .before .before .announced .ensures) (c .before .before .announced .kept .1 .1 .0)
 
 pub begun-spec : {M : Type 1} → statement M
 begun-spec =
@@ -60,7 +60,7 @@ begun-spec =
     enum-told
     returns
     head-requires
-    enum-known-behind
+    enum-known-after
     enum-told-2
     same-length
     returns-2

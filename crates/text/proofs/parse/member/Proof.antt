@@ -4,8 +4,8 @@ use Rattle.text.proofs.Descents.{members-end, members-more}
 use Rattle.text.proofs.parse.member.Statement.{statement}
 use Rattle.text.proofs.parse.member.Tie as tie
 
-close-at-requires : tie.Need-close-at-requires
-close-at-requires c κs = search needs
+bracket-at-requires : tie.Need-bracket-at-requires
+bracket-at-requires c κs = search needs
 
 enum-known-next : tie.Need-enum-known-next
 enum-known-next c = search needs
@@ -20,7 +20,7 @@ same-length : tie.Need-same-length
 same-length c = search needs
 
 returns : tie.Need-returns
-returns c = members-end (c .before .before .before .before .before .before .before .before .before .before .before .before .pre .0) (c .before .before .before .before .before .before .before .before .before .before .before .before .pre .1) (rw (c .before .before .before .before .before .before .next .given .1) at (c .before .before .before .before .before .before .before .before .close-at .ensures)) (c .before .before .before .noted .ensures)
+returns c = members-end (c .before .before .before .before .before .before .before .before .before .before .before .before .pre .0) (c .before .before .before .before .before .before .before .before .before .before .before .before .pre .1) (rw (c .before .before .before .before .before .before .next .given .1) at (c .before .before .before .before .before .before .before .before .bracket-at .ensures)) (c .before .before .before .noted .ensures)
 
 enum-told : tie.Need-enum-told
 enum-told c = search needs
@@ -38,13 +38,13 @@ same-length-3 : tie.Need-same-length-3
 same-length-3 c = search needs
 
 returns-2 : tie.Need-returns-2
-returns-2 c = members-more (c .before .before .before .before .before .before .before .before .before .before .before .before .before .before .before .before .before .pre .0) (c .before .before .before .before .before .before .before .before .before .before .before .before .before .before .before .before .before .pre .1) (rw (c .before .before .before .before .before .before .before .before .before .before .before .enum-told .given .1) at (c .before .before .before .before .before .before .before .before .before .before .before .before .before .close-at .ensures)) (c .before .before .before .before .before .before .before .before .before .noted2 .ensures) (c .before .before .before .before .begun .ensures)
+returns-2 c = members-more (c .before .before .before .before .before .before .before .before .before .before .before .before .before .before .before .before .before .pre .0) (c .before .before .before .before .before .before .before .before .before .before .before .before .before .before .before .before .before .pre .1) (rw (c .before .before .before .before .before .before .before .before .before .before .before .enum-told .given .1) at (c .before .before .before .before .before .before .before .before .before .before .before .before .before .bracket-at .ensures)) (c .before .before .before .before .before .before .before .before .before .noted2 .ensures) (c .before .before .before .before .begun .ensures)
 
 pub member-spec : {M : Type 1} → statement M
 member-spec =
     tie.close
     (tie.spec
-    close-at-requires
+    bracket-at-requires
     enum-known-next
     noted-requires
     add-t13

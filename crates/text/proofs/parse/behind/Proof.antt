@@ -1,7 +1,7 @@
--- `text::parse::passed` meets its contract.
+-- `text::parse::behind` meets its contract.
 use borrow.Author.Needs.{needs}
-use Rattle.text.proofs.parse.passed.Statement.{statement}
-use Rattle.text.proofs.parse.passed.Tie as tie
+use Rattle.text.proofs.parse.behind.Statement.{statement}
+use Rattle.text.proofs.parse.behind.Tie as tie
 
 enum-known-found : tie.Need-enum-known-found
 enum-known-found c = search needs
@@ -15,5 +15,5 @@ returns c = search needs
 returns-2 : tie.Need-returns-2
 returns-2 c = rw (c .before .found .given .1)
 
-pub passed-spec : {M : Type 1} → statement M
-passed-spec = tie.close (tie.spec enum-known-found enum-told returns returns-2)
+pub behind-spec : {M : Type 1} → statement M
+behind-spec = tie.close (tie.spec enum-known-found enum-told returns returns-2)
