@@ -15,6 +15,7 @@ pub mod Textbook
 pub mod Redexes
 pub mod Normals
 pub mod Steps
+pub mod Standings
 pub mod Preservation
 pub mod Machines
 pub mod Runs

@@ -8,8 +8,9 @@ use native.Mathlib.Omega.{arith}
 use lib.ListN.{length, getD, take, drop, replicate, length-append, take-append-drop}
 use lib.Seq.{take-at, take-take}
 use Rattle.calculus.specs.Tree.{term, program, Tree, empty, alt, preorder, nodes, threads, program-of, head-numbers}
-use Rattle.calculus.specs.Good.{Good}
+use Rattle.calculus.specs.Good.{All, Good}
 use Rattle.calculus.specs.Step.{finished, answer, standing}
+use Rattle.calculus.specs.Choice.{Quiet}
 use Rattle.calculus.specs.Run.{End, size, run, room-of, finished-head}
 use Rattle.calculus.specs.Answers.{standingCode, Values}
 use Rattle.calculus.specs.Calls.{Accepts, TableOf, end-table, RunsWith, thread-refusals, ThreadOf, StandsAt, stands, not-stood}
@@ -17,7 +18,7 @@ use Rattle.calculus.proofs.Substitutes.{impossible}
 use Rattle.calculus.proofs.Preorders.{nodes-positive, preorder-prefix, threads-of-program, program-of-threads, size-append, preorder-append, head-numbers-length}
 use Rattle.calculus.proofs.Refusals.{accepted-not-refused}
 use Rattle.calculus.proofs.Outcomes.{table-of-unique}
-use Rattle.calculus.proofs.Runs.{program-run-only, finished-head-is, demand-three}
+use Rattle.calculus.proofs.Runs.{program-run-only, finished-head-is, Movable, finished-head-quiet, demand-three}
 use Rattle.promises.specs.Worked.{HasRun}
 use Rattle.promises.proofs.Admitted.{number-positive, good-table}
 use Rattle.promises.proofs.Worked.{run-gives}
@@ -174,6 +175,11 @@ pub threads-there : {n : ℕ} {table : List ℕ} {count k : ℕ} {u : Tree term}
 threads-there {u = u} e g o = ap threads (table-of-unique g (o .table-of)) ∙ threads-of-program (o .before ++ (u ∷ o .after))
 
 module _ {n : ℕ} {table : List ℕ} {count : ℕ} {work : List ℕ} {limit : ℕ} {v : Values} {t w : List ℕ} where
+  -- no rule of document 003 rewrites a thread of the finished head that a run leaves, and some rule rewrites the thread behind it, if there is one
+  pub head-quiet : RunsWith n table count work limit v t w → v .refusal ≡ 0 → (e : Tree program) → TableOf n t (size-told v) e →
+      All Quiet (finished-head (threads e)) × ((rest : List (Tree term)) × ((threads e ≡ finished-head (threads e) ++ rest) × Movable rest))
+  head-quiet r z e g = finished-head-quiet (threads e) (rw (end-stands (run-gives r z) e g) (run-gives r z .result-good .coherent))
+
   -- of each thread of the finished head that a run leaves, the standing call on what it left says answer or stuck
   pub finished-as-told : RunsWith n table count work limit v t w → v .refusal ≡ 0 → (e : Tree program) → TableOf n t (size-told v) e →
       {k : ℕ} {s : Values} → k < length (finished-head (threads e)) → StandsAt n t (size-told v) k s → SaysFinished s

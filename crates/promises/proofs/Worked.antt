@@ -1,31 +1,34 @@
 -- Demand 2 over the calls: what every outcome that a contract allows has worked, for any node limit n.
-use mathlib.Core.Path.{_≡_, refl, ap, _∙_}
-use mathlib.Core.Logic.{inl, inr}
+use mathlib.Core.Path.{_≡_, refl, sym, ap, _∙_}
+use mathlib.Core.Logic.{_↔_, Iff·trans, inl, inr}
 use mathlib.Core.List.{List, [], _∷_, _++_}
 use mathlib.Core.Option.{none, some}
 use Prim.Native.Nat.{ℕ, _*_, _-_, _≤_, _<_}
 use native.Mathlib.Omega.{arith}
-use lib.ListN.{length, drop, replicate, length-append}
+use lib.ListN.{length, getD, drop, replicate, length-append}
 use lib.Seq.{take-at}
 use Rattle.calculus.specs.declared.Refusal.the-variants.{Finished}
+use Rattle.calculus.specs.declared.Standing.{Standing}
+use Rattle.calculus.specs.declared.Standing.the-variants.{Answer, Stuck, Open}
 use Rattle.calculus.specs.Tree.{term, program, Tree, preorder, nodes, threads, program-of}
 use Rattle.calculus.specs.Good.{Closed, Coherent, All, Good}
 use Rattle.calculus.specs.Normal.{Normal}
-use Rattle.calculus.specs.Step.{Step, step}
+use Rattle.calculus.specs.Step.{Step, step, standing}
 use Rattle.calculus.specs.Run.{End, size, run, holds-nodes, room-of}
 use Rattle.calculus.specs.Text.{text}
-use Rattle.calculus.specs.Answers.{number, Values}
-use Rattle.calculus.specs.Calls.{Refuses, front, Reads, read, refused, TableOf, Writes, StepsTo, step-refusals, StepsInto, stepped, not-stepped, end-table, ran-values, RunsWith, ran, not-run}
+use Rattle.calculus.specs.Answers.{number, standingCode, Values}
+use Rattle.calculus.specs.Calls.{Refuses, front, Reads, read, refused, TableOf, Writes, StepsTo, step-refusals, StepsInto, stepped, not-stepped, end-table, ran-values, RunsWith, ran, not-run, StandsAt, stands, not-stood}
 use Rattle.calculus.proofs.Substitutes.{impossible}
-use Rattle.calculus.proofs.Alls.{all-threads, all-both}
+use Rattle.calculus.proofs.Alls.{all-threads, all-both, all-at}
 use Rattle.calculus.proofs.Preorders.{preorder-length, program-of-threads}
 use Rattle.calculus.proofs.Texts.{text-length}
 use Rattle.calculus.proofs.Steps.{step-chosen, no-step-normal, normal-no-step}
+use Rattle.calculus.proofs.Standings.{Says, standing-exactly}
 use Rattle.calculus.proofs.Runs.{program-run-is}
-use Rattle.calculus.proofs.Preservation.{step-good, run-good, run-reductions}
+use Rattle.calculus.proofs.Preservation.{good-closed, good-coherent, step-good, run-good, run-choices, run-reductions}
 use Rattle.calculus.proofs.Outcomes.{table-of-unique, steps-once, runs-once}
 use Rattle.text.proofs.RoundTrip.{accepted, good-read-only, good-written-only}
-use Rattle.promises.specs.Worked.{HasRead, HasStepped, HasRun}
+use Rattle.promises.specs.Worked.{HasRead, HasStepped, HasRun, HasStood}
 use Rattle.promises.proofs.Admitted.{number-positive, closed-stable, coherent-stable, good-table, table-good}
 
 -- a good program's own numbers are a table that holds it, whatever stands behind them: what is said below is said of something
@@ -60,6 +63,19 @@ reads-iff l = (
   (λ v o h e. let r = read-gives h e in (r .program, (r .good, (r .is, r .fits)))),
   (λ f v o h. ap (λ (x : Values). x .refusal) (good-read-only (f .1 .0) l (f .1 .1 .1) (rw (← f .1 .1 .0) at h) .0)),
 )
+
+-- the standing of a code
+abbrev standing-of : ℕ → Standing
+standing-of m = getD (Answer ∷ Answer ∷ Stuck ∷ Open ∷ []) m Answer
+
+standing-of-code : (s : Standing) → standing-of (standingCode s) ≡ s
+standing-of-code Answer = refl
+standing-of-code Stuck = refl
+standing-of-code Open = refl
+
+-- a code is that of one standing
+code-told : (s r : Standing) → (standingCode s ∷ [] ≡ standingCode r ∷ []) ↔ (s ≡ r)
+code-told s r = (λ e. sym (standing-of-code s) ∙ ap (λ (l : List ℕ). standing-of (getD l 0 0)) e ∙ standing-of-code r, ap (λ (x : Standing). standingCode x ∷ []))
 
 module _ {n : ℕ} {table : List ℕ} {count : ℕ} where
   -- what an accepted step has stepped
@@ -147,6 +163,7 @@ module _ {n : ℕ} {table : List ℕ} {count : ℕ} where
       let good : Good n p = table-good (a .0, (a .1 .0, (a .1 .1 .0, tt))) t in
       let room = room-of n table work in
       let end : End (List (Tree term)) = run room limit (threads p) in
+      let threads-good = all-both (Closed 0) Coherent (threads p) (all-threads (λ s t. Closed 0 t) (λ t q c. c) p (good .closed)) (good .coherent) in
       let result-good : Good n (program-of (end .last)) = run-good n room limit (threads p) (rw program-of-threads good) (omega arith) in
       record {
         program = p;
@@ -154,7 +171,8 @@ module _ {n : ℕ} {table : List ℕ} {count : ℕ} where
         good = good;
         end = end;
         is-run = program-run-is room limit (threads p);
-        rewritings = run-reductions room limit (threads p) (all-both (Closed 0) Coherent (threads p) (all-threads (λ s t. Closed 0 t) (λ t q c. c) p (good .closed)) (good .coherent));
+        rewritings = run-reductions room limit (threads p) threads-good;
+        choices = run-choices room limit (threads p) threads-good;
         values = refl;
         left = refl;
         cleared = refl;
@@ -162,6 +180,25 @@ module _ {n : ℕ} {table : List ℕ} {count : ℕ} where
         back = front-table (replicate (length table - length (preorder (program-of (end .last)))) 0) result-good;
       }
   run-gives (not-run r g) e = absurd (omega (arith, number-positive r))
+
+  -- what an accepted standing call has told
+  pub has-stood : {k : ℕ} {v : Values} → StandsAt n table count k v → v .refusal ≡ 0 → HasStood n table count k v
+  has-stood (stands t a o) e =
+      let ts : List (Tree term) = o .before ++ (t ∷ o .after) in
+      let good : Good n (program-of ts) = table-good (a .0, (a .1 .0, (a .1 .1 .0, tt))) (o .table-of) in
+      let says : (s : Standing) → (standingCode (standing t) ∷ [] ≡ standingCode s ∷ []) ↔ Says s t =
+      λ s. Iff·trans (code-told (standing t) s) (standing-exactly t (all-at (Closed 0) (o .before) t (o .after) (good-closed n ts good)) (all-at Coherent (o .before) t (o .after) (good-coherent n ts good)) s) in
+      record {
+        thread = t;
+        thread-of = o;
+        good = good;
+        standing = standing t;
+        values = refl;
+        answer-told = says Answer;
+        stuck-told = says Stuck;
+        open-told = says Open;
+      }
+  has-stood (not-stood r g) e = absurd (omega (arith, number-positive r))
 
   -- a good program in a table is run with a work table that holds it, whatever the step limit
   pub good-runs : {work : List ℕ} {limit : ℕ} {v : Values} {t w : List ℕ} {p : Tree program} → TableOf n table count p → Good n p → count ≤ holds-nodes work → RunsWith n table count work limit v t w →

@@ -1,18 +1,23 @@
--- Demand 2: what an accepted read, step and run have worked, for the node limit n. v is what the call returned; o, t and w are what it left in the output,
--- the table and the work table.
+-- Demand 2: what an accepted read, step, run and standing call have worked, for the node limit n. v is what the call returned; o, t and w are what it left in
+-- the output, the table and the work table.
 use mathlib.Core.Path.{_≡_}
-use mathlib.Core.List.{List, [], _∷_}
+use mathlib.Core.Logic.{_↔_}
+use mathlib.Core.Bool.{true}
+use mathlib.Core.List.{List, [], _∷_, _++_}
 use Prim.Native.Nat.{ℕ, _≤_}
 use lib.ListN.{length, replicate}
+use Rattle.calculus.specs.declared.Standing.{Standing}
 use Rattle.calculus.specs.Tree.{term, program, Tree, preorder, nodes, threads, program-of}
+use Rattle.calculus.specs.Value.{value}
 use Rattle.calculus.specs.Good.{Good}
 use Rattle.calculus.specs.Reduction.{Reductions}
+use Rattle.calculus.specs.Normal.{Stuck}
 use Rattle.calculus.specs.Step.{Step}
-use Rattle.calculus.specs.Choice.{Chosen}
+use Rattle.calculus.specs.Choice.{Rewritable, Chosen, Choices}
 use Rattle.calculus.specs.Run.{End, IsRun, size, next-program, holds-nodes, room-of}
 use Rattle.calculus.specs.Text.{text}
-use Rattle.calculus.specs.Answers.{Values}
-use Rattle.calculus.specs.Calls.{front, TableOf, end-table, ran-values}
+use Rattle.calculus.specs.Answers.{standingCode, Values}
+use Rattle.calculus.specs.Calls.{front, TableOf, end-table, ran-values, ThreadOf}
 
 -- An accepted read: the text is that of a good program that fits the output, and the output begins with exactly that program.
 pub record HasRead (n : ℕ) (b out : List ℕ) (v : Values) (o : List ℕ) : Type 0 where
@@ -38,7 +43,7 @@ pub record HasStepped (n : ℕ) (table : List ℕ) (count : ℕ) (out : List ℕ
   pub back : TableOf n o (size (step .result)) (program-of (step .result))
 
 -- An accepted run: the table holds a good program; the end is that of the run as it is said without running it, by as many of document 003's rewritings as are
--- told; the table holds the end, a good program again, and then zeros, and the work table zeros.
+-- told, each of them the one that document 01 picks; the table holds the end, a good program again, and then zeros, and the work table zeros.
 pub record HasRun (n : ℕ) (table : List ℕ) (count : ℕ) (work : List ℕ) (limit : ℕ) (v : Values) (t w : List ℕ) : Type 0 where
   pub program : Tree program
   pub table-of : TableOf n table count program
@@ -46,8 +51,21 @@ pub record HasRun (n : ℕ) (table : List ℕ) (count : ℕ) (work : List ℕ) (
   pub end : End (List (Tree term))
   pub is-run : IsRun next-program size (room-of n table work) limit (threads program) end
   pub rewritings : Reductions (end .taken) (threads program) (end .last)
+  pub choices : Choices (end .taken) (threads program) (end .last)
   pub values : v ≡ ran-values end
   pub left : t ≡ end-table table (end .last)
   pub cleared : w ≡ replicate (length work) 0
   pub result-good : Good n (program-of (end .last))
   pub back : TableOf n t (size (end .last)) (program-of (end .last))
+
+-- An accepted standing call: the table holds a good program with a thread k. One standing is told: answer exactly if the thread is a value, stuck exactly if it is
+-- stuck by document 003's grammar, open exactly if some rule of document 003 rewrites it.
+pub record HasStood (n : ℕ) (table : List ℕ) (count k : ℕ) (v : Values) : Type 0 where
+  pub thread : Tree term
+  pub thread-of : ThreadOf n table count k thread
+  pub good : Good n (program-of (thread-of .before ++ (thread ∷ thread-of .after)))
+  pub standing : Standing
+  pub values : v .values ≡ standingCode standing ∷ []
+  pub answer-told : (v .values ≡ 1 ∷ []) ↔ (value thread ≡ true)
+  pub stuck-told : (v .values ≡ 2 ∷ []) ↔ Stuck thread
+  pub open-told : (v .values ≡ 3 ∷ []) ↔ Rewritable thread
