@@ -12,6 +12,7 @@ pub mod Unifiers
 pub mod Counting
 pub mod PutIns
 pub mod Textbook
+pub mod Binders
 pub mod Redexes
 pub mod Normals
 pub mod Steps

@@ -4,3 +4,4 @@ pub mod Shapes
 pub mod Reporting
 pub mod Calling
 pub mod Once
+pub mod Examples
