@@ -45,6 +45,7 @@ pub enum Counted {
 }
 
 // What a step answers: the nodes of the new program.
+// A type of its own beside `Counted`: a step and a read are not mixed up.
 pub enum Stepped {
     Nodes(usize),
     Refused(Refusal),

@@ -3,12 +3,19 @@ mod report;
 
 use libc::STDIN_FILENO;
 use libc::STDOUT_FILENO;
+use mespindro::TEXT;
+
+// One byte past the longest text.
+const INPUT: usize = TEXT + 1;
+
+// The longest report.
+const REPORT: usize = TEXT + 16;
 
 fn main() {
-    // up to one byte past the longest text: its report is that of the whole input (`cut-reported` of proofs/Once.antt); a read that fails is the end
-    let mut input = [0u8; 24577];
+    // the report of what is read is that of the whole input (`cut-reported` of proofs/Once.antt); a read that fails is the end
+    let mut input = [0u8; INPUT];
     let n = io::read_full(STDIN_FILENO, &mut input);
-    let mut out = [0u8; 24592];
+    let mut out = [0u8; REPORT];
     let m = report::report(&input[..n], &mut out);
     io::write_all(STDOUT_FILENO, &out[..m]);
 }

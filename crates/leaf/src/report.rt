@@ -11,10 +11,11 @@ use calculus::Ran;
 use calculus::Reason;
 use calculus::Refusal;
 use calculus::refusal_number;
+use mespindro::NUMBERS;
 use text::write::put;
 use text::write::put_number;
 
-const MOST: u32 = 10000;
+const STEP_LIMIT: u32 = 10000;
 
 // Some bytes.
 fn put_all(out: &mut [u8], to: usize, b: &[u8]) -> usize
@@ -81,8 +82,8 @@ fn put_run(count: usize, table: &mut [u16], out: &mut [u8]) -> usize
     requires { ⌜ longest ≤ length (now out) ⌝ }
     ensures { λ r. ⌜ RunWritten limit most (now (table .entry)) count (now (out .entry)) (now (out .exit)) r ⌝ }
 {
-    let mut work = [0u16; 4096];
-    match mespindro::run(table, count, &mut work, MOST) {
+    let mut work = [0u16; NUMBERS];
+    match mespindro::run(table, count, &mut work, STEP_LIMIT) {
         Ran::Stopped(reason, nodes, steps) => put_end(reason, steps as u16, table, nodes, out),
         // cannot be: what was read is run
         Ran::Refused(r) => put_refusal(r, out),
@@ -94,7 +95,7 @@ pub fn report(text: &[u8], out: &mut [u8]) -> usize
     requires { ⌜ longest ≤ length (now out) ⌝ }
     ensures { λ r. ⌜ Reported limit most (now (text .entry)) (now (out .entry)) r (now (out .exit)) ⌝ }
 {
-    let mut table = [0u16; 4096];
+    let mut table = [0u16; NUMBERS];
     match mespindro::read(text, &mut table) {
         Counted::Count(n) => put_run(n, &mut table, out),
         Counted::Refused(r) => put_refusal(r, out),

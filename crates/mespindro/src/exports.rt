@@ -152,7 +152,7 @@ pub extern "C" fn mespindro_standing(table: &[u16], count: usize, k: usize) -> S
 pub extern "C" fn mespindro_thread(table: &[u16], count: usize, k: usize) -> Part
     ensures { λ r. ⌜ SpanOf limit (now (table .entry)) count k (r .start) (r .length) ⌝ }
 {
-    let mut scratch = [0u16; 2050];
+    let mut scratch = [0u16; crate::SCRATCH];
     let span = table::threads::span_of(table, count, k, crate::LIMIT, &mut scratch);
     Part {
         start: span.start,

@@ -1,7 +1,6 @@
 // What a switch OS calls: six calls without a `requires`, for the node limit of 2,048. The scratch is theirs, on the stack.
 pub mod exports;
 
-ghost use mathlib.Core.Path.{_≡_};
 ghost use Rattle.calculus.specs.Answers.{countedValues, ranValues, steppedValues, stoodValues};
 ghost use Rattle.calculus.specs.Calls.{Reads, RunsWith, StandsAt, StepsInto, Writes};
 ghost use Rattle.table.specs.Threads.{ThreadPart};
@@ -13,13 +12,22 @@ use calculus::Stood;
 
 const LIMIT: usize = 2048;
 
+// The numbers of a table of that many nodes, and the links of a thread.
+pub const NUMBERS: usize = 2 * LIMIT;
+
+// The bytes of the longest text.
+pub const TEXT: usize = 12 * LIMIT;
+
+// What checking a table needs.
+const SCRATCH: usize = LIMIT + 2;
+
 // Reads a text into a table: the nodes at its front, or 2 to 9.
 pub fn read(text: &[u8], out: &mut [u16]) -> Counted
     ensures { λ r. ⌜ Reads limit (now (text .entry)) (now (out .entry)) (countedValues r) (now (out .exit)) ⌝ }
 {
-    let mut build = [0u16; 4096];
-    let mut scratch = [0u16; 2050];
-    let mut goals = [0u8; 24578];
+    let mut build = [0u16; NUMBERS];
+    let mut scratch = [0u16; SCRATCH];
+    let mut goals = [0u8; TEXT + 2];
     text::read::read(text, out, LIMIT, &mut build, &mut scratch, &mut goals)
 }
 
@@ -27,7 +35,7 @@ pub fn read(text: &[u8], out: &mut [u16]) -> Counted
 pub fn write(table: &[u16], count: usize, out: &mut [u8]) -> Counted
     ensures { λ r. ⌜ Writes limit (now (table .entry)) count (now (out .entry)) (countedValues r) (now (out .exit)) ⌝ }
 {
-    let mut scratch = [0u16; 2050];
+    let mut scratch = [0u16; SCRATCH];
     text::store::write(table, count, out, LIMIT, &mut scratch)
 }
 
@@ -35,8 +43,8 @@ pub fn write(table: &[u16], count: usize, out: &mut [u8]) -> Counted
 pub fn step(table: &[u16], count: usize, out: &mut [u16]) -> Stepped
     ensures { λ r. ⌜ StepsInto limit (now (table .entry)) count (now (out .entry)) (steppedValues r) (now (out .exit)) ⌝ }
 {
-    let mut links = [0u16; 4096];
-    let mut sizes = [0u16; 2048];
+    let mut links = [0u16; NUMBERS];
+    let mut sizes = [0u16; LIMIT];
     step::single::step(table, count, out, LIMIT, &mut links, &mut sizes)
 }
 
@@ -44,8 +52,8 @@ pub fn step(table: &[u16], count: usize, out: &mut [u16]) -> Stepped
 pub fn run(table: &mut [u16], count: usize, work: &mut [u16], most: u32) -> Ran
     ensures { λ r. ⌜ RunsWith limit (now (table .entry)) count (now (work .entry)) most (ranValues r) (now (table .exit)) (now (work .exit)) ⌝ }
 {
-    let mut links = [0u16; 4096];
-    let mut sizes = [0u16; 2048];
+    let mut links = [0u16; NUMBERS];
+    let mut sizes = [0u16; LIMIT];
     run::run(table, count, work, most, LIMIT, &mut links, &mut sizes)
 }
 
@@ -53,7 +61,7 @@ pub fn run(table: &mut [u16], count: usize, work: &mut [u16], most: u32) -> Ran
 pub fn standing(table: &[u16], count: usize, k: usize) -> Stood
     ensures { λ r. ⌜ StandsAt limit (now (table .entry)) count k (stoodValues r) ⌝ }
 {
-    let mut scratch = [0u16; 2050];
+    let mut scratch = [0u16; SCRATCH];
     run::standing(table, count, k, LIMIT, &mut scratch)
 }
 
@@ -61,6 +69,6 @@ pub fn standing(table: &[u16], count: usize, k: usize) -> Stood
 pub fn thread<'a>(table: &'a [u16], count: usize, k: usize) -> &'a [u16]
     ensures { λ r. ⌜ ThreadPart limit (now (table .entry)) count k (table .entry .ptr .0) (table .entry .ptr .1) (r .ptr .0) (r .ptr .1) (now r) ⌝ }
 {
-    let mut scratch = [0u16; 2050];
+    let mut scratch = [0u16; SCRATCH];
     table::threads::thread(table, count, k, LIMIT, &mut scratch)
 }
