@@ -1,6 +1,7 @@
 -- The laws of the definitions, for the crates above.
 pub mod Ends
 pub mod Refusals
+pub mod Answers
 pub mod Alls
 pub mod Preorders
 pub mod Decimals

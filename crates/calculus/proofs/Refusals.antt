@@ -7,6 +7,7 @@ use native.Mathlib.Omega.{arith}
 use Rattle.calculus.specs.declared.Refusal.{Refusal}
 use Rattle.calculus.specs.Answers.{number}
 use Rattle.calculus.specs.Calls.{Refusals, Accepts, Refuses, Applies, read-refusals, write-refusals, step-refusals, run-refusals, thread-refusals}
+use Rattle.calculus.proofs.Bindings.{In}
 
 abbrev pub numbers : Refusals → List ℕ
 numbers [] = []
@@ -69,6 +70,15 @@ pub given-applies : (cs : Refusals) (r : Refusal) → Refuses cs r → Applies c
 given-applies [] r g = absurd g
 given-applies (c ∷ cs) r (inl g) = inl (ap number (sym (g .1)), g .0)
 given-applies (c ∷ cs) r (inr g) = inr (given-applies cs r (g .1))
+
+-- and one of the list's
+pub given-listed : (cs : Refusals) (r : Refusal) → Refuses cs r → In (number r) (numbers cs)
+given-listed cs r g = listed cs (number r) (given-applies cs r g)
+  where
+    listed : (cs : Refusals) (m : ℕ) → Applies cs m → In m (numbers cs)
+    listed [] m h = absurd h
+    listed (c ∷ cs) m (inl h) = inl (h .0)
+    listed (c ∷ cs) m (inr h) = inr (listed cs m h)
 
 -- an accepted call has no refusal, and a refused one only one
 pub accepted-not-refused : (cs : Refusals) (r : Refusal) → Accepts cs → Refuses cs r → ⊥

@@ -1,24 +1,23 @@
 -- What the read and the run leave, and the report of both: what is read is run, and its end is written.
-use mathlib.Core.Path.{_≡_, refl, sym, ap, _∙_}
+use mathlib.Core.Path.{_≡_, sym, ap, _∙_}
 use mathlib.Core.List.{List, [], _∷_}
 use Prim.Native.Nat.{ℕ, _*_, _≤_}
 use native.Mathlib.Omega.{arith}
 use lib.ListN.{length, getD, drop, replicate, length-append, length-replicate}
 use Rattle.calculus.specs.declared.Reason.{Reason}
-use Rattle.calculus.specs.declared.Reason.the-variants.{Ended, Steps, Room}
 use Rattle.calculus.specs.declared.Refusal.{Refusal}
-use Rattle.calculus.specs.Tree.{term, program, Tree, nodes, threads, program-of}
+use Rattle.calculus.specs.Tree.{term, Tree, nodes, threads, program-of}
 use Rattle.calculus.specs.Run.{End, run, room-of}
 use Rattle.calculus.specs.Answers.{number, reasonCode, Values}
 use Rattle.calculus.specs.Calls.{Reads, TableOf, ran-values, RunsWith}
 use Rattle.calculus.specs.Report.{report, refusal-report, reported, refused}
+use Rattle.calculus.proofs.Answers.{number-positive, reason-injective, same-value}
 use Rattle.calculus.proofs.Runs.{program-run-only}
 use Rattle.calculus.proofs.Outcomes.{table-of-unique}
 use Rattle.text.specs.Writer.{numeral, Wrote}
 use Rattle.text.proofs.RoundTrip.{accepted}
 use Rattle.mespindro.specs.Limit.{limit}
 use Rattle.promises.specs.Worked.{HasRead, HasRun}
-use Rattle.promises.proofs.Admitted.{number-positive}
 use Rattle.promises.proofs.Worked.{read-gives, run-gives, good-runs}
 use Rattle.promises.proofs.Refused.{reads-exactly, read-length}
 use Rattle.leaf.specs.Reported.{most, longest, Reported}
@@ -29,16 +28,6 @@ use Rattle.leaf.proofs.Shapes.{number-small, numeral-length, refusal-is
 -- a table of zeros holds the limit's nodes
 pub zeros-long : length (replicate {A = ℕ} (2 * limit) 0) ≡ 2 * limit
 zeros-long = length-replicate {A = ℕ} (2 * limit) 0
-
--- a reason by its code
-reason-of : ℕ → Reason
-reason-of k = getD (Ended ∷ Ended ∷ Steps ∷ Room ∷ []) k Ended
-
-code-reason : (r : Reason) → reason-of (reasonCode r) ≡ r
-unfolding reason-of
-code-reason Ended = refl
-code-reason Steps = refl
-code-reason Room = refl
 
 -- what a run that stopped returns
 abbrev pub stopped : Reason → ℕ → ℕ → Values
@@ -67,10 +56,10 @@ module _ {table : List ℕ} {count : ℕ} {work : List ℕ} {allowed : ℕ} {v :
 
   module _ (r : Reason) {m k : ℕ} (f : v ≡ stopped r m k) where
     value : (i : ℕ) → getD (reasonCode r ∷ m ∷ k ∷ []) i 0 ≡ getD (ran-values (has-run .end) .values) i 0
-    value i = ap (λ (x : Values). getD (x .values) i 0) (sym f ∙ has-run .values)
+    value i = same-value i (sym f ∙ has-run .values)
 
     reason-is : r ≡ has-run .end .reason
-    reason-is = sym (code-reason r) ∙ ap reason-of (value 0) ∙ code-reason (has-run .end .reason)
+    reason-is = reason-injective r (has-run .end .reason) (value 0)
 
     -- the steps are as few as the limit says
     pub run-few : k ≤ allowed

@@ -1,19 +1,24 @@
--- What the program writes is a function of the bytes: one report of a text, and no byte past the text limit changes it.
+-- What the program writes is a function of the bytes: one report of a text, and no byte past the text limit changes it. Of a refused text it is 2 to 8.
 use mathlib.Core.Path.{_≡_, refl, sym, ap, _∙_}
-use mathlib.Core.Logic.{⊎-elim, inl, inr}
-use mathlib.Core.List.{List}
+use mathlib.Core.Logic.{_⊎_, ⊎-elim, inl, inr}
+use mathlib.Core.List.{List, [], _∷_, _++_}
 use Prim.Native.Nat.{ℕ, _+_, _*_, _≤_, _<_}
 use native.Mathlib.Nat.{eq-or-lt-of-le}
 use native.Mathlib.Omega.{arith}
-use lib.ListN.{length, take, replicate, length-take}
+use lib.ListN.{length, take, replicate, length-take, length-replicate}
 use lib.Seq.{take-all}
-use Rattle.calculus.specs.declared.Refusal.the-variants.{TooLong}
+use Rattle.calculus.specs.declared.Refusal.{Refusal}
+use Rattle.calculus.specs.declared.Refusal.the-variants.{TooLong, NoRoom}
 use Rattle.calculus.specs.Tree.{program, Tree, threads}
 use Rattle.calculus.specs.Run.{run}
-use Rattle.calculus.specs.Calls.{front, read-refusals}
+use Rattle.calculus.specs.Answers.{number}
+use Rattle.calculus.specs.Calls.{Refuses, front, TextOf, read-refusals}
 use Rattle.calculus.specs.Report.{report, refusal-report, Reports, reported, refused}
-use Rattle.calculus.proofs.Refusals.{accepted-not-refused, one-refusal}
+use Rattle.calculus.proofs.Answers.{number-injective}
+use Rattle.calculus.proofs.Bindings.{In}
+use Rattle.calculus.proofs.Refusals.{given-listed, accepted-not-refused, one-refusal}
 use Rattle.calculus.proofs.Outcomes.{text-of-unique}
+use Rattle.promises.proofs.Refused.{read-has-room}
 use Rattle.leaf.specs.Reported.{Reported}
 
 module _ {n k : ℕ} {b : List ℕ} where
@@ -46,3 +51,23 @@ cut-reported {n} b h =
     (λ (e : length (take m b) ≡ m). rw (too-long (omega arith) h) (refused TooLong (inl (omega arith, refl))))
     (λ (l : length (take m b) < m). rw (take-all m b (omega arith)) at h)
     (eq-or-lt-of-le within)
+
+-- what is in a list, and is not its last, is before it
+before-last : (l : List ℕ) {x y : ℕ} → (y ≡ x → ⊥) → In x (l ++ (y ∷ [])) → In x l
+before-last [] f (inl e) = f e
+before-last [] f (inr h) = h
+before-last (z ∷ l) f (inl e) = inl e
+before-last (z ∷ l) f (inr h) = inr (before-last l f h)
+
+module _ {n : ℕ} {b : List ℕ} where
+  -- the program's table holds whatever is within the limit: 9 is never given
+  pub never-nine : Refuses (read-refusals n b (replicate (2 * n) 0)) NoRoom → ⊥
+  never-nine g = read-has-room (replicate (2 * n) 0) (omega (arith, length-replicate {A = ℕ} (2 * n) 0)) g
+
+  -- what is written is the report of a run, or that of one of these refusals
+  pub reports-can-give : {k : ℕ} {w : List ℕ} → Reports n k b w → ((p : Tree program) × (TextOf n b p × (w ≡ report (run n k (threads p))))) ⊎ ((r : Refusal) × (In (number r) (2 ∷ 3 ∷ 4 ∷ 5 ∷ 6 ∷ 7 ∷ 8 ∷ []) × (w ≡ refusal-report r)))
+  reports-can-give (reported p a t) = inl (p, (t, refl))
+  reports-can-give (refused r g) =
+      let cs = read-refusals n b (replicate (2 * n) 0) in
+      let last : 9 ≡ number r → ⊥ = λ e. never-nine (rw (number-injective r NoRoom (sym e)) at g) in
+      inr (r, (before-last (2 ∷ 3 ∷ 4 ∷ 5 ∷ 6 ∷ 7 ∷ 8 ∷ []) last (given-listed cs r g), refl))

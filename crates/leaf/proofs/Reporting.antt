@@ -10,12 +10,12 @@ use Rattle.calculus.specs.Text.{text}
 use Rattle.calculus.specs.Answers.{number, Values}
 use Rattle.calculus.specs.Calls.{front, Writes}
 use Rattle.calculus.specs.Report.{refusal-report}
+use Rattle.calculus.proofs.Answers.{number-positive}
 use Rattle.calculus.proofs.Texts.{text-length}
 use Rattle.calculus.proofs.Outcomes.{table-of-unique}
 use Rattle.text.specs.Writer.{numeral, Room, Wrote}
 use Rattle.text.proofs.RoundTrip.{accepted}
 use Rattle.mespindro.specs.Limit.{limit}
-use Rattle.promises.proofs.Admitted.{number-positive}
 use Rattle.promises.proofs.Worked.{good-writes}
 use Rattle.leaf.specs.Reported.{longest}
 use Rattle.leaf.specs.Written.{reasonAtom, startBytes, HoldsGood, EndWritten}

@@ -3,28 +3,11 @@ use mathlib.Core.Path.{_≡_, refl, ap, ap₂}
 use mathlib.Core.List.{List, [], _∷_}
 use Prim.Native.Nat.{ℕ, suc, _≤_, _<_}
 use native.Mathlib.Omega.{arith}
-use Rattle.calculus.specs.declared.Refusal.{Refusal}
-use Rattle.calculus.specs.declared.Refusal.the-variants.{NoProgram, TooLong, NotCanonical, OutOfPlace, BadNumber, NoBinder, TooManyNodes, Incoherent, NoRoom, NoThread, Finished}
 use Rattle.calculus.specs.Tree.{Sort, term, program, Tree, empty, alt, bound, free, con, abs, fresh, two, preorder, threads}
 use Rattle.calculus.specs.Good.{Closed, Coherent, All, Good}
-use Rattle.calculus.specs.Answers.{number}
 use Rattle.calculus.specs.Calls.{Accepts, TableOf, table-refusals}
 use Rattle.calculus.proofs.Preorders.{preorder-injective}
 use Rattle.calculus.proofs.Outcomes.{table-of-unique}
-
--- the refusal numbers begin with 1
-pub number-positive : (r : Refusal) → 0 < number r
-number-positive NoProgram = omega arith
-number-positive TooLong = omega arith
-number-positive NotCanonical = omega arith
-number-positive OutOfPlace = omega arith
-number-positive BadNumber = omega arith
-number-positive NoBinder = omega arith
-number-positive TooManyNodes = omega arith
-number-positive Incoherent = omega arith
-number-positive NoRoom = omega arith
-number-positive NoThread = omega arith
-number-positive Finished = omega arith
 
 -- it is denied that A is denied
 abbrev pub Undenied : Type 0 → Type 0

@@ -16,11 +16,12 @@ use Rattle.calculus.specs.Answers.{standingCode, Values}
 use Rattle.calculus.specs.Calls.{Accepts, TableOf, end-table, RunsWith, thread-refusals, ThreadOf, StandsAt, stands, not-stood}
 use Rattle.calculus.proofs.Substitutes.{impossible}
 use Rattle.calculus.proofs.Preorders.{nodes-positive, preorder-prefix, threads-of-program, program-of-threads, size-append, preorder-append, head-numbers-length}
+use Rattle.calculus.proofs.Answers.{number-positive}
 use Rattle.calculus.proofs.Refusals.{accepted-not-refused}
 use Rattle.calculus.proofs.Outcomes.{table-of-unique}
 use Rattle.calculus.proofs.Runs.{program-run-only, finished-head-is, Movable, finished-head-quiet, demand-three}
 use Rattle.promises.specs.Worked.{HasRun}
-use Rattle.promises.proofs.Admitted.{number-positive, good-table}
+use Rattle.promises.proofs.Admitted.{good-table}
 use Rattle.promises.proofs.Worked.{run-gives}
 
 -- the node count that an accepted run tells, the second of its values

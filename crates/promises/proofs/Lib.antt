@@ -1,5 +1,6 @@
 pub mod Admitted
 pub mod Refused
+pub mod Determined
 pub mod Worked
 pub mod Heads
 pub mod Excluded

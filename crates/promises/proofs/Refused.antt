@@ -4,43 +4,24 @@ use mathlib.Core.Logic.{_⊎_, inl, inr, ⊎-elim}
 use mathlib.Core.List.{List, [], _∷_}
 use Prim.Native.Nat.{ℕ, _≤_, _<_}
 use native.Mathlib.Omega.{arith}
-use lib.ListN.{length, getD, length-append, length-drop, length-replicate}
+use lib.ListN.{length, take, drop, length-append, length-take, length-drop, length-replicate}
 use Rattle.calculus.specs.declared.Refusal.{Refusal}
-use Rattle.calculus.specs.declared.Refusal.the-variants.{NoProgram, TooLong, NotCanonical, OutOfPlace, BadNumber, NoBinder, TooManyNodes, Incoherent, NoRoom, NoThread, Finished}
+use Rattle.calculus.specs.declared.Refusal.the-variants.{NoRoom}
 use Rattle.calculus.specs.Tree.{term, Tree, preorder, nodes, threads, program-of}
 use Rattle.calculus.specs.Run.{Leads, stays, goes, size, next-program, run, holds-nodes, room-of}
 use Rattle.calculus.specs.Text.{text}
 use Rattle.calculus.specs.Answers.{number, Values}
 use Rattle.calculus.specs.Calls.{Refusals, Accepts, Refuses, Applies, front, read-refusals, Reads, read, refused, write-refusals, Writes, written, not-written, step-refusals, StepsInto, stepped, not-stepped, run-refusals, RunsWith, ran, not-run, thread-refusals, StandsAt, stands, not-stood, PartAt, part, no-part}
+use Rattle.calculus.proofs.Bindings.{In}
 use Rattle.calculus.proofs.Preorders.{nodes-positive, preorder-length, program-of-threads}
-use Rattle.calculus.proofs.Refusals.{Ascends, read-ascends, write-ascends, step-ascends, run-ascends, thread-ascends, lowest, accepted-not-refused, one-refusal}
+use Rattle.calculus.proofs.Answers.{number-positive, number-injective}
+use Rattle.calculus.proofs.Refusals.{Ascends, read-ascends, write-ascends, step-ascends, run-ascends, thread-ascends, lowest, given-listed, accepted-not-refused, one-refusal}
 use Rattle.calculus.proofs.Runs.{program-run-is}
-use Rattle.table.specs.Threads.{ThreadPart}
+use Rattle.table.specs.Threads.{SpanOf, ThreadPart}
 use Rattle.promises.specs.Exactly.{Exactly}
-use Rattle.promises.proofs.Admitted.{number-positive, Undenied, same-number}
+use Rattle.promises.proofs.Admitted.{Undenied, same-number}
 
 -- One law for every call's list of refusals.
-
--- the refusal of a number
-abbrev refusal-of : ℕ → Refusal
-refusal-of m = getD (NoProgram ∷ NoProgram ∷ TooLong ∷ NotCanonical ∷ OutOfPlace ∷ BadNumber ∷ NoBinder ∷ TooManyNodes ∷ Incoherent ∷ NoRoom ∷ NoThread ∷ Finished ∷ []) m NoProgram
-
-refusal-of-number : (r : Refusal) → refusal-of (number r) ≡ r
-refusal-of-number NoProgram = refl
-refusal-of-number TooLong = refl
-refusal-of-number NotCanonical = refl
-refusal-of-number OutOfPlace = refl
-refusal-of-number BadNumber = refl
-refusal-of-number NoBinder = refl
-refusal-of-number TooManyNodes = refl
-refusal-of-number Incoherent = refl
-refusal-of-number NoRoom = refl
-refusal-of-number NoThread = refl
-refusal-of-number Finished = refl
-
--- a number is that of one refusal
-pub number-injective : (r q : Refusal) → number r ≡ number q → r ≡ q
-number-injective r q e = sym (refusal-of-number r) ∙ ap refusal-of e ∙ refusal-of-number q
 
 -- where none holds, none applies
 none-applies : (cs : Refusals) (m : ℕ) → Accepts cs → Applies cs m → ⊥
@@ -84,10 +65,27 @@ module _ {n : ℕ} {b out : List ℕ} where
   reads-exactly (read p a t) = exactly-accepted (read-refusals n b out) a
   reads-exactly (refused r g) = exactly-refused (read-refusals n b out) r (read-ascends n b out) g
 
+  -- it is 0 or one of these
+  pub reads-can-give : {v : Values} {o : List ℕ} → Reads n b out v o → (v .refusal ≡ 0) ⊎ In (v .refusal) (2 ∷ 3 ∷ 4 ∷ 5 ∷ 6 ∷ 7 ∷ 8 ∷ 9 ∷ [])
+  reads-can-give (read p a t) = inl refl
+  reads-can-give (refused r g) = inr (given-listed (read-refusals n b out) r g)
+
   -- a refused read returns a count of 0 and changes nothing in lent memory
   pub read-refused : {v : Values} {o : List ℕ} → Reads n b out v o → (v .refusal ≡ 0 → ⊥) → (v .values ≡ 0 ∷ []) × (o ≡ out)
   read-refused (read p a t) f = absurd (f refl)
   read-refused (refused r g) f = (refl, refl)
+
+-- 9 is not given with an output for as many nodes as the limit: what is too large for it is given 7
+pub read-has-room : {n : ℕ} {b : List ℕ} (out : List ℕ) → n ≤ holds-nodes out → Refuses (read-refusals n b out) NoRoom → ⊥
+read-has-room out l (inl g) = omega (arith, ap number (g .1))
+read-has-room out l (inr (a, inl g)) = omega (arith, ap number (g .1))
+read-has-room out l (inr (a, inr (c, inl g))) = omega (arith, ap number (g .1))
+read-has-room out l (inr (a, inr (c, inr (d, inl g)))) = omega (arith, ap number (g .1))
+read-has-room out l (inr (a, inr (c, inr (d, inr (e, inl g))))) = omega (arith, ap number (g .1))
+read-has-room out l (inr (a, inr (c, inr (d, inr (e, inr (f, inl g)))))) = omega (arith, ap number (g .1))
+read-has-room out l (inr (a, inr (c, inr (d, inr (e, inr (f, inr (i, inl g))))))) = omega (arith, ap number (g .1))
+read-has-room out l (inr (a, inr (c, inr (d, inr (e, inr (f, inr (i, inr (j, inl ((p, (t, h)), q))))))))) = i (p, (t, omega arith))
+read-has-room out l (inr (a, inr (c, inr (d, inr (e, inr (f, inr (i, inr (j, inr (k, h))))))))) = h
 
 -- Calls on a table: 1, 6, 8.
 module _ {n : ℕ} {table : List ℕ} {count : ℕ} where
@@ -110,6 +108,26 @@ module _ {n : ℕ} {table : List ℕ} {count : ℕ} where
   pub stands-exactly : {k : ℕ} {v : Values} → StandsAt n table count k v → Exactly (thread-refusals n table count k) (v .refusal)
   stands-exactly {k} (stands t a h) = exactly-accepted (thread-refusals n table count k) a
   stands-exactly {k} (not-stood r g) = exactly-refused (thread-refusals n table count k) r (thread-ascends n table count k) g
+
+  -- a write's number is 0 or one of these
+  pub writes-can-give : {out : List ℕ} {v : Values} {o : List ℕ} → Writes n table count out v o → (v .refusal ≡ 0) ⊎ In (v .refusal) (1 ∷ 6 ∷ 8 ∷ 9 ∷ [])
+  writes-can-give (written p a t) = inl refl
+  writes-can-give {out} (not-written r g) = inr (given-listed (write-refusals n table count out) r g)
+
+  -- a step's
+  pub steps-can-give : {out : List ℕ} {v : Values} {o : List ℕ} → StepsInto n table count out v o → (v .refusal ≡ 0) ⊎ In (v .refusal) (1 ∷ 6 ∷ 7 ∷ 8 ∷ 9 ∷ 11 ∷ [])
+  steps-can-give (stepped p s a t) = inl refl
+  steps-can-give {out} (not-stepped r g) = inr (given-listed (step-refusals n table count out) r g)
+
+  -- a run's
+  pub runs-can-give : {work : List ℕ} {limit : ℕ} {v : Values} {t w : List ℕ} → RunsWith n table count work limit v t w → (v .refusal ≡ 0) ⊎ In (v .refusal) (1 ∷ 6 ∷ 8 ∷ 9 ∷ [])
+  runs-can-give (ran p a t) = inl refl
+  runs-can-give {work} (not-run r g) = inr (given-listed (run-refusals n table count work) r g)
+
+  -- the standing call's
+  pub stands-can-give : {k : ℕ} {v : Values} → StandsAt n table count k v → (v .refusal ≡ 0) ⊎ In (v .refusal) (1 ∷ 6 ∷ 8 ∷ 10 ∷ [])
+  stands-can-give (stands t a h) = inl refl
+  stands-can-give {k} (not-stood r g) = inr (given-listed (thread-refusals n table count k) r g)
 
   -- a refused write returns a count of 0 and changes nothing in lent memory
   pub write-refused : {out : List ℕ} {v : Values} {o : List ℕ} → Writes n table count out v o → (v .refusal ≡ 0 → ⊥) → (v .values ≡ 0 ∷ []) × (o ≡ out)
@@ -141,6 +159,16 @@ module _ {n : ℕ} {table : List ℕ} {count : ℕ} where
   pub part-empty : {B : Type 0} {k : ℕ} {v : Values} {block part-block : B} {address part-address : ℕ} {l : List ℕ} → StandsAt n table count k v → ThreadPart n table count k block address part-block part-address l →
       (l ≡ [] → (v .refusal ≡ 0 → ⊥)) × ((v .refusal ≡ 0 → ⊥) → l ≡ [])
   part-empty h k = part-refused h (k .holds)
+
+  -- a part that is within the table has its length
+  pub span-length : {k s m : ℕ} → SpanOf n table count k s m → length (take m (drop s table)) ≡ m
+  span-length {k} {s} {m} h = omega (arith, h .within, length-take m (drop s table), length-drop s table)
+
+  -- the exported thread call's length is 0 exactly when the standing call on the same input refuses
+  pub span-empty : {k s m : ℕ} {v : Values} → StandsAt n table count k v → SpanOf n table count k s m → (m ≡ 0 → (v .refusal ≡ 0 → ⊥)) × ((v .refusal ≡ 0 → ⊥) → m ≡ 0)
+  span-empty {k} {s} h i =
+      let p = part-refused h (i .holds) in
+      ((λ e. p .0 (ap (λ (j : ℕ). take j (drop s table)) e)), λ f. sym (span-length i) ∙ ap length (p .1 f))
 
 -- No call makes lent memory longer or shorter: an accepted one fills a front that fits.
 

@@ -19,6 +19,7 @@ use Rattle.calculus.specs.Text.{text}
 use Rattle.calculus.specs.Answers.{number, standingCode, Values}
 use Rattle.calculus.specs.Calls.{Refuses, front, Reads, read, refused, TableOf, Writes, StepsTo, step-refusals, StepsInto, stepped, not-stepped, end-table, ran-values, RunsWith, ran, not-run, StandsAt, stands, not-stood}
 use Rattle.calculus.proofs.Substitutes.{impossible}
+use Rattle.calculus.proofs.Answers.{number-positive}
 use Rattle.calculus.proofs.Alls.{all-threads, all-both, all-at}
 use Rattle.calculus.proofs.Preorders.{preorder-length, program-of-threads}
 use Rattle.calculus.proofs.Texts.{text-length}
@@ -29,7 +30,7 @@ use Rattle.calculus.proofs.Preservation.{good-closed, good-coherent, step-good,
 use Rattle.calculus.proofs.Outcomes.{table-of-unique, steps-once, runs-once}
 use Rattle.text.proofs.RoundTrip.{accepted, good-read-only, good-written-only}
 use Rattle.promises.specs.Worked.{HasRead, HasStepped, HasRun, HasStood}
-use Rattle.promises.proofs.Admitted.{number-positive, closed-stable, coherent-stable, good-table, table-good}
+use Rattle.promises.proofs.Admitted.{closed-stable, coherent-stable, good-table, table-good}
 
 -- a good program's own numbers are a table that holds it, whatever stands behind them: what is said below is said of something
 pub front-table : {n : ℕ} {p : Tree program} (rest : List ℕ) → Good n p → TableOf n (preorder p ++ rest) (nodes p) p

@@ -1,0 +1,117 @@
+-- What a call returns tells its answer: no two answers of an enum have one number, code or values.
+use mathlib.Core.Path.{_≡_, refl, sym, ap, _∙_}
+use mathlib.Core.List.{[], _∷_}
+use Prim.Native.Nat.{ℕ, _<_}
+use native.Mathlib.Omega.{arith}
+use lib.ListN.{getD}
+use Rattle.calculus.specs.declared.Refusal.{Refusal}
+use Rattle.calculus.specs.declared.Refusal.the-variants.{NoProgram, TooLong, NotCanonical, OutOfPlace, BadNumber, NoBinder, TooManyNodes, Incoherent, NoRoom, NoThread, Finished}
+use Rattle.calculus.specs.declared.Reason.{Reason}
+use Rattle.calculus.specs.declared.Reason.the-variants.{Ended, Steps, Room}
+use Rattle.calculus.specs.declared.Standing.{Standing}
+use Rattle.calculus.specs.declared.Standing.the-variants.{Answer, Stuck, Open}
+use Rattle.calculus.specs.declared.Counted.{Counted}
+use Rattle.calculus.specs.declared.Counted.the-variants as counted
+use Rattle.calculus.specs.declared.Stepped.{Stepped}
+use Rattle.calculus.specs.declared.Stepped.the-variants as stepped
+use Rattle.calculus.specs.declared.Ran.{Ran}
+use Rattle.calculus.specs.declared.Ran.the-variants as ran
+use Rattle.calculus.specs.declared.Stood.{Stood}
+use Rattle.calculus.specs.declared.Stood.the-variants as stood
+use Rattle.calculus.specs.Answers.{number, reasonCode, standingCode, Values, countedValues, steppedValues, ranValues, stoodValues}
+
+-- the refusal numbers begin with 1
+pub number-positive : (r : Refusal) → 0 < number r
+number-positive NoProgram = omega arith
+number-positive TooLong = omega arith
+number-positive NotCanonical = omega arith
+number-positive OutOfPlace = omega arith
+number-positive BadNumber = omega arith
+number-positive NoBinder = omega arith
+number-positive TooManyNodes = omega arith
+number-positive Incoherent = omega arith
+number-positive NoRoom = omega arith
+number-positive NoThread = omega arith
+number-positive Finished = omega arith
+
+-- the refusal of a number
+abbrev refusal-of : ℕ → Refusal
+refusal-of m = getD (NoProgram ∷ NoProgram ∷ TooLong ∷ NotCanonical ∷ OutOfPlace ∷ BadNumber ∷ NoBinder ∷ TooManyNodes ∷ Incoherent ∷ NoRoom ∷ NoThread ∷ Finished ∷ []) m NoProgram
+
+refusal-of-number : (r : Refusal) → refusal-of (number r) ≡ r
+refusal-of-number NoProgram = refl
+refusal-of-number TooLong = refl
+refusal-of-number NotCanonical = refl
+refusal-of-number OutOfPlace = refl
+refusal-of-number BadNumber = refl
+refusal-of-number NoBinder = refl
+refusal-of-number TooManyNodes = refl
+refusal-of-number Incoherent = refl
+refusal-of-number NoRoom = refl
+refusal-of-number NoThread = refl
+refusal-of-number Finished = refl
+
+-- a number is that of one refusal
+pub number-injective : (r q : Refusal) → number r ≡ number q → r ≡ q
+number-injective r q e = sym (refusal-of-number r) ∙ ap refusal-of e ∙ refusal-of-number q
+
+-- the reason of a code
+abbrev reason-of : ℕ → Reason
+reason-of k = getD (Ended ∷ Ended ∷ Steps ∷ Room ∷ []) k Ended
+
+reason-of-code : (r : Reason) → reason-of (reasonCode r) ≡ r
+reason-of-code Ended = refl
+reason-of-code Steps = refl
+reason-of-code Room = refl
+
+-- a code is that of one reason
+pub reason-injective : (r q : Reason) → reasonCode r ≡ reasonCode q → r ≡ q
+reason-injective r q e = sym (reason-of-code r) ∙ ap reason-of e ∙ reason-of-code q
+
+-- the standing of a code
+abbrev standing-of : ℕ → Standing
+standing-of k = getD (Answer ∷ Answer ∷ Stuck ∷ Open ∷ []) k Answer
+
+standing-of-code : (s : Standing) → standing-of (standingCode s) ≡ s
+standing-of-code Answer = refl
+standing-of-code Stuck = refl
+standing-of-code Open = refl
+
+-- a code is that of one standing
+pub standing-injective : (s t : Standing) → standingCode s ≡ standingCode t → s ≡ t
+standing-injective s t e = sym (standing-of-code s) ∙ ap standing-of e ∙ standing-of-code t
+
+-- equal values have equal refusal numbers, and an equal value at each place
+pub same-refusal : {v w : Values} → v ≡ w → v .refusal ≡ w .refusal
+same-refusal e = ap (λ (x : Values). x .refusal) e
+
+pub same-value : {v w : Values} (i : ℕ) → v ≡ w → getD (v .values) i 0 ≡ getD (w .values) i 0
+same-value i e = ap (λ (x : Values). getD (x .values) i 0) e
+
+-- no two answers of reading or writing have the same values
+pub counted-once : (x y : Counted) → countedValues x ≡ countedValues y → x ≡ y
+counted-once (counted.Count n) (counted.Count m) e = ap counted.Count (same-value 0 e)
+counted-once (counted.Count n) (counted.Refused r) e = absurd (omega (arith, number-positive r, same-refusal e))
+counted-once (counted.Refused r) (counted.Count n) e = absurd (omega (arith, number-positive r, same-refusal e))
+counted-once (counted.Refused r) (counted.Refused q) e = ap counted.Refused (number-injective r q (same-refusal e))
+
+-- of a step
+pub stepped-once : (x y : Stepped) → steppedValues x ≡ steppedValues y → x ≡ y
+stepped-once (stepped.Nodes n) (stepped.Nodes m) e = ap stepped.Nodes (same-value 0 e)
+stepped-once (stepped.Nodes n) (stepped.Refused r) e = absurd (omega (arith, number-positive r, same-refusal e))
+stepped-once (stepped.Refused r) (stepped.Nodes n) e = absurd (omega (arith, number-positive r, same-refusal e))
+stepped-once (stepped.Refused r) (stepped.Refused q) e = ap stepped.Refused (number-injective r q (same-refusal e))
+
+-- of a run
+pub ran-once : (x y : Ran) → ranValues x ≡ ranValues y → x ≡ y
+ran-once (ran.Stopped r n k) (ran.Stopped q m j) e = rw (reason-injective r q (same-value 0 e), same-value 1 e, same-value 2 e)
+ran-once (ran.Stopped r n k) (ran.Refused q) e = absurd (omega (arith, number-positive q, same-refusal e))
+ran-once (ran.Refused r) (ran.Stopped q n k) e = absurd (omega (arith, number-positive r, same-refusal e))
+ran-once (ran.Refused r) (ran.Refused q) e = ap ran.Refused (number-injective r q (same-refusal e))
+
+-- of the standing call
+pub stood-once : (x y : Stood) → stoodValues x ≡ stoodValues y → x ≡ y
+stood-once (stood.Stands s) (stood.Stands t) e = ap stood.Stands (standing-injective s t (same-value 0 e))
+stood-once (stood.Stands s) (stood.Refused r) e = absurd (omega (arith, number-positive r, same-refusal e))
+stood-once (stood.Refused r) (stood.Stands s) e = absurd (omega (arith, number-positive r, same-refusal e))
+stood-once (stood.Refused r) (stood.Refused q) e = ap stood.Refused (number-injective r q (same-refusal e))
