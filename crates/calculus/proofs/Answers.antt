@@ -1,7 +1,7 @@
 -- What a call returns tells its answer: no two answers of an enum have one number, code or values.
 use mathlib.Core.Path.{_≡_, refl, sym, ap, _∙_}
 use mathlib.Core.List.{[], _∷_}
-use Prim.Native.Nat.{ℕ, _<_}
+use Prim.Native.Nat.{ℕ, _≤_, _<_}
 use native.Mathlib.Omega.{arith}
 use lib.ListN.{getD}
 use Rattle.calculus.specs.declared.Refusal.{Refusal}
@@ -20,19 +20,31 @@ use Rattle.calculus.specs.declared.Stood.{Stood}
 use Rattle.calculus.specs.declared.Stood.the-variants as stood
 use Rattle.calculus.specs.Answers.{number, reasonCode, standingCode, Values, countedValues, steppedValues, ranValues, stoodValues}
 
--- the refusal numbers begin with 1
+-- the refusal numbers are 1 to 11
+number-range : (r : Refusal) → (0 < number r) × (number r ≤ 11)
+number-range NoProgram = omega arith
+number-range TooLong = omega arith
+number-range NotCanonical = omega arith
+number-range OutOfPlace = omega arith
+number-range BadNumber = omega arith
+number-range NoBinder = omega arith
+number-range TooManyNodes = omega arith
+number-range Incoherent = omega arith
+number-range NoRoom = omega arith
+number-range NoThread = omega arith
+number-range Finished = omega arith
+
+-- they begin with 1
 pub number-positive : (r : Refusal) → 0 < number r
-number-positive NoProgram = omega arith
-number-positive TooLong = omega arith
-number-positive NotCanonical = omega arith
-number-positive OutOfPlace = omega arith
-number-positive BadNumber = omega arith
-number-positive NoBinder = omega arith
-number-positive TooManyNodes = omega arith
-number-positive Incoherent = omega arith
-number-positive NoRoom = omega arith
-number-positive NoThread = omega arith
-number-positive Finished = omega arith
+number-positive r = number-range r .0
+
+-- and have two digits at most
+pub number-small : (r : Refusal) → number r ≤ 11
+number-small r = number-range r .1
+
+-- what can be told back is told apart
+told-apart : {A : Type 0} (tell : A → ℕ) (back : ℕ → A) → ((x : A) → back (tell x) ≡ x) → (x y : A) → tell x ≡ tell y → x ≡ y
+told-apart tell back h x y e = sym (h x) ∙ ap back e ∙ h y
 
 -- the refusal of a number
 abbrev refusal-of : ℕ → Refusal
@@ -53,7 +65,7 @@ refusal-of-number Finished = refl
 
 -- a number is that of one refusal
 pub number-injective : (r q : Refusal) → number r ≡ number q → r ≡ q
-number-injective r q e = sym (refusal-of-number r) ∙ ap refusal-of e ∙ refusal-of-number q
+number-injective = told-apart number refusal-of refusal-of-number
 
 -- the reason of a code
 abbrev reason-of : ℕ → Reason
@@ -66,7 +78,7 @@ reason-of-code Room = refl
 
 -- a code is that of one reason
 pub reason-injective : (r q : Reason) → reasonCode r ≡ reasonCode q → r ≡ q
-reason-injective r q e = sym (reason-of-code r) ∙ ap reason-of e ∙ reason-of-code q
+reason-injective = told-apart reasonCode reason-of reason-of-code
 
 -- the standing of a code
 abbrev standing-of : ℕ → Standing
@@ -79,7 +91,7 @@ standing-of-code Open = refl
 
 -- a code is that of one standing
 pub standing-injective : (s t : Standing) → standingCode s ≡ standingCode t → s ≡ t
-standing-injective s t e = sym (standing-of-code s) ∙ ap standing-of e ∙ standing-of-code t
+standing-injective = told-apart standingCode standing-of standing-of-code
 
 -- equal values have equal refusal numbers, and an equal value at each place
 pub same-refusal : {v w : Values} → v ≡ w → v .refusal ≡ w .refusal

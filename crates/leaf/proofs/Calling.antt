@@ -11,7 +11,7 @@ use Rattle.calculus.specs.Run.{End, run, room-of}
 use Rattle.calculus.specs.Answers.{number, reasonCode, Values}
 use Rattle.calculus.specs.Calls.{Reads, TableOf, ran-values, RunsWith}
 use Rattle.calculus.specs.Report.{report, refusal-report, reported, refused}
-use Rattle.calculus.proofs.Answers.{number-positive, reason-injective, same-value}
+use Rattle.calculus.proofs.Answers.{number-positive, reason-injective, same-value, number-small}
 use Rattle.calculus.proofs.Runs.{program-run-only}
 use Rattle.calculus.proofs.Outcomes.{table-of-unique}
 use Rattle.text.specs.Writer.{numeral, Wrote}
@@ -23,7 +23,7 @@ use Rattle.promises.proofs.Refused.{reads-exactly, read-length}
 use Rattle.leaf.specs.Reported.{most, longest, Reported}
 use Rattle.leaf.specs.Written.{HoldsGood, Loaded, EndWritten, RunWritten}
 use Rattle.leaf.proofs.Stores.{wrote-front}
-use Rattle.leaf.proofs.Shapes.{number-small, numeral-length, refusal-is}
+use Rattle.leaf.proofs.Shapes.{numeral-length, refusal-is}
 
 -- a table of zeros holds the limit's nodes
 pub zeros-long : length (replicate {A = ℕ} (2 * limit) 0) ≡ 2 * limit

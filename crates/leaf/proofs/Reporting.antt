@@ -10,7 +10,7 @@ use Rattle.calculus.specs.Text.{text}
 use Rattle.calculus.specs.Answers.{number, Values}
 use Rattle.calculus.specs.Calls.{front, Writes}
 use Rattle.calculus.specs.Report.{refusal-report}
-use Rattle.calculus.proofs.Answers.{number-positive}
+use Rattle.calculus.proofs.Answers.{number-positive, number-small}
 use Rattle.calculus.proofs.Texts.{text-length}
 use Rattle.calculus.proofs.Outcomes.{table-of-unique}
 use Rattle.text.specs.Writer.{numeral, Room, Wrote}
@@ -21,7 +21,7 @@ use Rattle.leaf.specs.Reported.{longest}
 use Rattle.leaf.specs.Written.{reasonAtom, startBytes, HoldsGood, EndWritten}
 use Rattle.text.proofs.Written.{wrote-more}
 use Rattle.leaf.proofs.Stores.{lent, given-back, lent-length, part-wrote}
-use Rattle.leaf.proofs.Shapes.{number-small, numeral-length, reason-length, refused-head, refusal-is, report-is}
+use Rattle.leaf.proofs.Shapes.{numeral-length, reason-length, refused-head, refusal-is, report-is}
 
 -- A refusal: behind its atom its number, behind that the closing bracket.
 module _ (r : Refusal) {out mid : List ℕ} {a k : ℕ} (l : longest ≤ length out) (w : Wrote out mid 0 a refused-head) (e : k ≡ number r) where

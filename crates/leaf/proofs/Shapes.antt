@@ -7,7 +7,6 @@ use lib.ListN.{length}
 use Rattle.calculus.specs.declared.Reason.{Reason}
 use Rattle.calculus.specs.declared.Reason.the-variants.{Ended, Steps, Room}
 use Rattle.calculus.specs.declared.Refusal.{Refusal}
-use Rattle.calculus.specs.declared.Refusal.the-variants.{NoProgram, TooLong, NotCanonical, OutOfPlace, BadNumber, NoBinder, TooManyNodes, Incoherent, NoRoom, NoThread, Finished}
 use Rattle.calculus.specs.Tree.{term, Tree, program-of}
 use Rattle.calculus.specs.Run.{End}
 use Rattle.calculus.specs.Sexp.{decimal, digits, bytes}
@@ -18,20 +17,6 @@ use Rattle.calculus.proofs.Decimals.{decimal-length}
 use Rattle.text.specs.Writer.{numeral}
 use Rattle.text.proofs.Written.{numeral-is}
 use Rattle.leaf.specs.Written.{reasonAtom, startBytes}
-
--- a refusal's number has two digits at most
-pub number-small : (r : Refusal) → number r ≤ 11
-number-small NoProgram = omega arith
-number-small TooLong = omega arith
-number-small NotCanonical = omega arith
-number-small OutOfPlace = omega arith
-number-small BadNumber = omega arith
-number-small NoBinder = omega arith
-number-small TooManyNodes = omega arith
-number-small Incoherent = omega arith
-number-small NoRoom = omega arith
-number-small NoThread = omega arith
-number-small Finished = omega arith
 
 -- a count of 16 bits takes at most 7 bytes
 pub numeral-length : (n : ℕ) → n < 65536 → length (numeral n) ≤ 7

@@ -1,5 +1,5 @@
 -- Demand 2 over the calls: what every outcome that a contract allows has worked, for any node limit n.
-use mathlib.Core.Path.{_≡_, refl, sym, ap, _∙_}
+use mathlib.Core.Path.{_≡_, refl, ap, _∙_}
 use mathlib.Core.Logic.{_↔_, Iff·trans, inl, inr}
 use mathlib.Core.List.{List, [], _∷_, _++_}
 use mathlib.Core.Option.{none, some}
@@ -19,7 +19,7 @@ use Rattle.calculus.specs.Text.{text}
 use Rattle.calculus.specs.Answers.{number, standingCode, Values}
 use Rattle.calculus.specs.Calls.{Refuses, front, Reads, read, refused, TableOf, Writes, StepsTo, step-refusals, StepsInto, stepped, not-stepped, end-table, ran-values, RunsWith, ran, not-run, StandsAt, stands, not-stood}
 use Rattle.calculus.proofs.Substitutes.{impossible}
-use Rattle.calculus.proofs.Answers.{number-positive}
+use Rattle.calculus.proofs.Answers.{number-positive, standing-injective}
 use Rattle.calculus.proofs.Alls.{all-threads, all-both, all-at}
 use Rattle.calculus.proofs.Preorders.{preorder-length, program-of-threads}
 use Rattle.calculus.proofs.Texts.{text-length}
@@ -65,18 +65,9 @@ reads-iff l = (
   (λ f v o h. ap (λ (x : Values). x .refusal) (good-read-only (f .1 .0) l (f .1 .1 .1) (rw (← f .1 .1 .0) at h) .0)),
 )
 
--- the standing of a code
-abbrev standing-of : ℕ → Standing
-standing-of m = getD (Answer ∷ Answer ∷ Stuck ∷ Open ∷ []) m Answer
-
-standing-of-code : (s : Standing) → standing-of (standingCode s) ≡ s
-standing-of-code Answer = refl
-standing-of-code Stuck = refl
-standing-of-code Open = refl
-
 -- a code is that of one standing
 code-told : (s r : Standing) → (standingCode s ∷ [] ≡ standingCode r ∷ []) ↔ (s ≡ r)
-code-told s r = (λ e. sym (standing-of-code s) ∙ ap (λ (l : List ℕ). standing-of (getD l 0 0)) e ∙ standing-of-code r, ap (λ (x : Standing). standingCode x ∷ []))
+code-told s r = (λ e. standing-injective s r (ap (λ (l : List ℕ). getD l 0 0) e), ap (λ (x : Standing). standingCode x ∷ []))
 
 module _ {n : ℕ} {table : List ℕ} {count : ℕ} where
   -- what an accepted step has stepped
