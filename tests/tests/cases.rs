@@ -141,10 +141,24 @@ fn check_stop(case: &Case, stop: &Stop, table: &[u16]) {
         let past = binding::standing(table, stop.nodes, standings.len());
         assert_eq!(past, Err(Refusal::NoThread), "{name}");
     }
+    if let (1, Some(end)) = (case.steps, &case.end) {
+        single_step(name, &case.program, end);
+    }
     // a single step of an ended program is refused, whatever the output
     if stop.reason == Reason::Ended {
         let step = binding::step(table, stop.nodes, &mut []);
         assert_eq!(step, Err(Refusal::Finished), "{name}");
+    }
+}
+
+/// That the call of one step gives what a run of one step gives.
+fn single_step(name: &str, program: &Program, end: &Program) {
+    let (table, end) = (write_table(program), write_table(end));
+    for length in [end.len(), end.len() + 1, 4200] {
+        let mut out = vec![7; length];
+        let step = binding::step(&table, table.len() / 2, &mut out);
+        assert_eq!(step, Ok(end.len() / 2), "{name}");
+        assert_eq!(out[..end.len()], end, "{name}");
     }
 }
 
@@ -208,7 +222,7 @@ fn of_document_01() {
 
 #[test]
 fn runs() {
-    check_file("runs.txt", include_str!("cases/runs.txt"), 54);
+    check_file("runs.txt", include_str!("cases/runs.txt"), 59);
 }
 
 #[test]
@@ -236,6 +250,54 @@ fn refusal(number: &str) -> Refusal {
     Refusal::of_number(number).expect("a refusal")
 }
 
+/// A text with its repeated pieces written out: `{3 ab}` is `ababab`. `\n` is a newline.
+fn written_out(text: &str) -> Vec<u8> {
+    let (mut out, mut rest) = (String::new(), text);
+    while let Some((before, behind)) = rest.split_once('{') {
+        let (inside, after) = behind.split_once('}').expect("a closing brace");
+        let (times, piece) = inside.split_once(' ').expect("a number and a piece");
+        out += before;
+        out += &piece.repeat(times.parse().expect("a number"));
+        rest = after;
+    }
+    (out + rest).replace("\\n", "\n").into_bytes()
+}
+
+/// Numbers with a comma between them.
+fn listed(numbers: &str) -> Vec<u16> {
+    let numbers = numbers.split(',');
+    numbers.map(|n| n.parse().expect("a number")).collect()
+}
+
+/// The numbers of a table's words: each a number, or `K*n,n` for what stands behind the star, K times.
+fn numbers<'a>(words: impl Iterator<Item = &'a str>) -> Vec<u16> {
+    let of_word = |word: &str| match word.split_once('*') {
+        Some((times, piece)) => listed(piece).repeat(times.parse().expect("a number")),
+        None => listed(word),
+    };
+    words.flat_map(of_word).collect()
+}
+
+/// That reading the text answers what the word says.
+fn reads(name: &str, text: &[u8], out: usize, outcome: &str) {
+    let mut table = vec![7; out];
+    let got = binding::read(text, &mut table);
+    match outcome.strip_prefix("read:") {
+        Some(nodes) => {
+            let (nodes, numbers) = nodes.split_once('=').unwrap_or((nodes, ""));
+            assert_eq!(got, Ok(nodes.parse().expect("nodes")), "{name}");
+            if !numbers.is_empty() {
+                assert_eq!(table[..2 * got.unwrap()], listed(numbers), "{name}");
+            }
+        }
+        None if outcome == "one" => {
+            let refused = [Err(Refusal::TooLong), Err(Refusal::NotCanonical)];
+            assert!(!refused.contains(&got), "{name}: {got:?}");
+        }
+        None => assert_eq!(got, Err(refusal(outcome)), "{name}"),
+    }
+}
+
 #[test]
 fn texts() {
     let mut number = 0;
@@ -243,15 +305,12 @@ fn texts() {
         let mut words = line.splitn(4, ' ');
         let mut word = || words.next().unwrap_or("");
         let (name, out, outcome) = (word(), word(), word());
-        let text = word().replace("\\n", "\n").into_bytes();
-        let expected = match outcome.strip_prefix("read:") {
-            Some(nodes) => Ok(nodes.parse::<usize>().expect("nodes")),
-            None => Err(refusal(outcome)),
-        };
-        let out = out.parse().expect("a length");
-        assert_eq!(binding::read(&text, &mut vec![7; out]), expected, "{name}");
-        let call = Call::Read { text, out };
-        Tally::default().compare(&call).expect(name);
+        let (text, out) = (written_out(word()), out.parse().expect("a length"));
+        on_big_stack(|| {
+            reads(name, &text, out, outcome);
+            let call = Call::Read { text, out };
+            Tally::default().compare(&call).expect(name);
+        });
         number += 1;
     }
     println!("texts.txt: {number} cases");
@@ -265,13 +324,56 @@ fn tables() {
         let name = words.next().expect("a name");
         let count = words.next().expect("a count").parse().expect("a count");
         let outcome = words.next().expect("an outcome");
-        let table: Vec<u16> = words.map(|n| n.parse().expect("a number")).collect();
-        every_call_answers(name, &table, count, outcome);
+        every_call_answers(name, &numbers(words), count, outcome);
         number += 1;
     }
-    let many = vec![0; 2 * 2049];
-    every_call_answers("N21", &many, 2049, "1");
-    println!("tables.txt: {} cases", number + 1);
+    println!("tables.txt: {number} cases");
+}
+
+#[test]
+fn writes() {
+    let mut number = 0;
+    for line in lines(include_str!("cases/writes.txt")) {
+        let mut words = line.split(' ');
+        let name = words.next().expect("a name");
+        let out = words.next().expect("a length").parse().expect("a length");
+        let count = words.next().expect("a count").parse().expect("a count");
+        let outcome = words.next().expect("an outcome");
+        let table = numbers(words);
+        let mut bytes = vec![7; out];
+        let got = binding::write(&table, count, &mut bytes);
+        let got = got.map(|length| String::from_utf8_lossy(&bytes[..length]));
+        let expected = match outcome.starts_with('(') {
+            true => Ok(outcome.into()),
+            false => Err(refusal(outcome)),
+        };
+        assert_eq!(got, expected, "{name}");
+        let call = Call::Write { table, count, out };
+        Tally::default().compare(&call).expect(name);
+        number += 1;
+    }
+    println!("writes.txt: {number} cases");
+}
+
+#[test]
+fn threads() {
+    let mut number = 0;
+    for line in lines(include_str!("cases/threads.txt")) {
+        let mut words = line.split(' ');
+        let name = words.next().expect("a name");
+        let count = words.next().expect("a count").parse().expect("a count");
+        let parts = words.next().expect("the parts").split('|');
+        let parts: Vec<Vec<u16>> = parts.filter(|p| *p != "-").map(listed).collect();
+        let table = numbers(words);
+        for (k, part) in parts.iter().enumerate() {
+            assert_eq!(binding::thread(&table, count, k), part, "{name}");
+        }
+        for k in [parts.len(), usize::MAX] {
+            assert!(binding::thread(&table, count, k).is_empty(), "{name}");
+        }
+        number += 1;
+    }
+    println!("threads.txt: {number} cases");
 }
 
 /// Every call on the table refuses with the number, or none refuses it where the outcome is `-`.
@@ -283,6 +385,8 @@ fn every_call_answers(name: &str, table: &[u16], count: usize, outcome: &str) {
         binding::run(&mut run_table, count, &mut work, 9).err(),
         binding::standing(table, count, 0).err(),
     ];
+    let part = binding::thread(table, count, 0);
+    assert!(outcome == "-" || part.is_empty(), "{name}: a part");
     for answer in answers {
         let number = answer.map_or(0, Refusal::number);
         match outcome {

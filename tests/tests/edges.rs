@@ -358,7 +358,12 @@ fn stop(reason: Reason, nodes: usize, steps: u32) -> Stop {
 #[test]
 fn values_that_no_memory_holds() {
     let ok = vec![constructor(0)];
-    let towers = [(vec![one_tower(255)], 2045), (vec![two_towers(127)], 2041)];
+    let towers = [
+        (vec![one_tower(255)], 2045),
+        (vec![one_tower(50)], 405),
+        (vec![two_towers(127)], 2041),
+        (vec![two_towers(25)], 409),
+    ];
     on_big_stack(|| {
         for (program, nodes) in towers {
             assert_eq!(program_size(&program), nodes);
@@ -370,7 +375,7 @@ fn values_that_no_memory_holds() {
         assert_eq!(step, Err(Refusal::TooManyNodes));
         assert_eq!(run(&kept), (stop(Reason::Room, 2047, 0), kept.clone()));
     });
-    println!("D97, D97b, D98: 3 programs");
+    println!("D97, D97b, D98: 5 programs");
 }
 
 #[test]
@@ -394,6 +399,7 @@ fn doubling_values_of_exact_size() {
     let table = write_table(&incoherent);
     let step = binding::step(&table, table.len() / 2, &mut []);
     assert_eq!(step, Err(Refusal::Incoherent));
+    reads(&write_text(&incoherent), Err(8));
     for finished in ["(c1)", "()"] {
         let table = write_table(&short::program(finished));
         let step = binding::step(&table, table.len() / 2, &mut []);
