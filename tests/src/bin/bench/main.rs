@@ -4,9 +4,11 @@
 //! are release builds in one process on the same inputs; before each call the table is filled anew and the work table cleared, outside the
 //! time. Each time is the least of several rounds. tools/bench builds and runs it.
 
+mod inputs;
+
+use inputs::{cases, long_structure, placements, Case};
 use mespindro_tests::binding;
-use mespindro_tests::evaluator::table::{read_table, write_table};
-use mespindro_tests::evaluator::text::read_text;
+use mespindro_tests::evaluator::table::read_table;
 use mespindro_tests::evaluator::{self, NODES, TEXT};
 use mespindro_tests::on_big_stack;
 use std::fmt::Write;
@@ -14,14 +16,6 @@ use std::hint::black_box;
 use std::path::Path;
 use std::process::Command;
 use std::time::{Duration, Instant};
-
-/// A run that is measured; where the evaluator cannot take the input, the library alone.
-struct Case {
-    name: &'static str,
-    table: Vec<u16>,
-    most: u32,
-    alone: bool,
-}
 
 /// What is found of one case: times of the whole call.
 struct Row {
@@ -55,206 +49,8 @@ fn measure_all() -> Vec<Row> {
     let mut rows: Vec<Row> = cases().iter().map(measure).collect();
     rows.push(reading());
     rows.push(writing());
+    rows.push(reading_out());
     rows
-}
-
-// ---- The inputs.
-
-fn cases() -> Vec<Case> {
-    let case = |name, table, most| Case {
-        name,
-        table,
-        most,
-        alone: false,
-    };
-    let mut cases = vec![
-        case(
-            "a structure of 1,999 nodes: nothing to do",
-            one_thread(&structure(999, |_| (4, 2))),
-            1,
-        ),
-        case(
-            "the same with 499 variables: nothing to do",
-            one_thread(&structure(999, |i| if i < 499 { (3, i) } else { (4, 2) })),
-            1,
-        ),
-        case(
-            "two equal structures of 1,000 nodes unified",
-            equal_structures(),
-            1,
-        ),
-        case(
-            "a structure of 1,000 nodes against one of variables",
-            variable_structure(),
-            1,
-        ),
-        case("a doubling unifier, 11 levels", doubling(11), 1),
-        case(
-            "340 alternatives, each with a variable of its own",
-            alternatives(340),
-            10_000,
-        ),
-        case("2,045 nested fresh variables", nested_fresh(2045), 10_000),
-        case(
-            "1,022 guards, nested on the right",
-            nested_guards(1022),
-            10_000,
-        ),
-        case(
-            "endless beta behind a structure, a full table",
-            endless(true),
-            10_000,
-        ),
-        case(
-            "endless beta before a structure, a full table",
-            endless(false),
-            10_000,
-        ),
-        case("endless beta, 15 nodes", endless_small(), 10_000),
-    ];
-    for (name, file) in [
-        ("two tenants (rules/two-tenants)", "two-tenants"),
-        ("48 ports (rules/leaf-48)", "leaf-48"),
-    ] {
-        if let Some(table) = rules(file) {
-            cases.push(case(name, table, 10_000));
-        }
-    }
-    cases.extend(alone_cases());
-    cases
-}
-
-/// Inputs whose unifier no evaluator that copies can hold, or on which the library is slowest.
-fn alone_cases() -> Vec<Case> {
-    let case = |name, table| Case {
-        name,
-        table,
-        most: 1,
-        alone: true,
-    };
-    vec![
-        case("a doubling unifier, 255 levels", doubling(255)),
-        case("a chain of 499 variables, the last first", chain(499)),
-    ]
-}
-
-/// A program of one thread.
-fn one_thread(nodes: &[(u16, u16)]) -> Vec<u16> {
-    let mut table = vec![1, 0];
-    for &(kind, number) in nodes {
-        table.extend([kind, number]);
-    }
-    table.extend([0, 0]);
-    table
-}
-
-/// c1 applied to k elements.
-fn structure(k: u16, element: impl Fn(u16) -> (u16, u16)) -> Vec<(u16, u16)> {
-    let mut nodes = vec![(7, 0); k as usize];
-    nodes.push((4, 1));
-    nodes.extend((0..k).map(element));
-    nodes
-}
-
-fn goal(left: Vec<(u16, u16)>, right: Vec<(u16, u16)>) -> Vec<(u16, u16)> {
-    let mut nodes = vec![(10, 0)];
-    nodes.extend(left);
-    nodes.extend(right);
-    nodes
-}
-
-fn equal_structures() -> Vec<u16> {
-    one_thread(&goal(
-        structure(499, |_| (4, 2)),
-        structure(499, |_| (4, 2)),
-    ))
-}
-
-fn variable_structure() -> Vec<u16> {
-    one_thread(&goal(
-        structure(499, |_| (4, 2)),
-        structure(499, |i| (3, i)),
-    ))
-}
-
-/// The tower D(n): the variable n has 2^(n+2) - 3 nodes.
-fn doubling(n: u16) -> Vec<u16> {
-    let mut right = vec![(7, 0); n as usize];
-    right.push((4, 9));
-    for i in 0..n {
-        right.extend([(7, 0), (7, 0), (4, 8), (3, i), (3, i)]);
-    }
-    let mut left = vec![(7, 0); n as usize];
-    left.push((4, 9));
-    left.extend((1..=n).map(|i| (3, i)));
-    one_thread(&goal(left, right))
-}
-
-/// Each variable against the next smaller one, from the last on: the links make one long chain.
-fn chain(n: u16) -> Vec<u16> {
-    one_thread(&goal(
-        structure(n, |i| (3, n - i)),
-        structure(n, |i| (3, n - i - 1)),
-    ))
-}
-
-/// `(g (u x0 cI) x0)` for each I.
-fn alternatives(n: u16) -> Vec<u16> {
-    let mut table = Vec::new();
-    for i in 0..n {
-        table.extend([1, 0, 9, 0, 10, 0, 3, 0, 4, i, 3, 0]);
-    }
-    table.extend([0, 0]);
-    table
-}
-
-fn nested_fresh(n: usize) -> Vec<u16> {
-    let mut nodes = vec![(8, 0); n];
-    nodes.push((4, 1));
-    one_thread(&nodes)
-}
-
-fn nested_guards(n: usize) -> Vec<u16> {
-    let mut nodes = [(9, 0), (4, 2)].repeat(n);
-    nodes.push((4, 1));
-    one_thread(&nodes)
-}
-
-/// `(a W W)` with W = `(L 0 ((a b0 b0)))`: steps to itself.
-fn self_application() -> Vec<(u16, u16)> {
-    let w = [(6, 0), (1, 0), (7, 0), (2, 0), (2, 0), (0, 0)];
-    let mut nodes = vec![(7, 0)];
-    nodes.extend(w);
-    nodes.extend(w);
-    nodes
-}
-
-fn endless_small() -> Vec<u16> {
-    one_thread(&self_application())
-}
-
-/// The same beside a structure that fills the table.
-fn endless(behind: bool) -> Vec<u16> {
-    let big = structure(1014, |_| (4, 2));
-    let mut nodes = vec![(7, 0)];
-    if behind {
-        nodes.extend(big);
-        nodes.extend(self_application());
-    } else {
-        nodes.extend([(7, 0), (4, 9)]);
-        nodes.extend(self_application());
-        nodes.extend(structure(1013, |_| (4, 2)));
-    }
-    one_thread(&nodes)
-}
-
-fn rules(name: &str) -> Option<Vec<u16>> {
-    let file = Path::new(env!("CARGO_MANIFEST_DIR"))
-        .join("../rules")
-        .join(name)
-        .with_extension("csexp");
-    let text = std::fs::read(file).ok()?;
-    Some(write_table(&read_text(&text).expect("a rule set is read")))
 }
 
 // ---- The times.
@@ -348,7 +144,7 @@ fn copy_floor(nodes: usize) -> Duration {
 }
 
 fn long_program() -> (Vec<u8>, Vec<u16>) {
-    let table = one_thread(&structure(1022, |i| (4, 60_000 + i)));
+    let table = long_structure();
     let text =
         evaluator::text::write_text(&read_table(&table, table.len() / 2).expect("a program"));
     (text, table)
@@ -396,6 +192,40 @@ fn writing() -> Row {
         },
     );
     row("writing a text", &text, &table, library, evaluator)
+}
+
+/// Every thread's standing and part, each by its own call; against copying the table once.
+fn reading_out() -> Row {
+    let table = placements(255);
+    let count = table.len() / 2;
+    let library = least(
+        || {},
+        |done| {
+            for k in 0..255 {
+                black_box(binding::standing(&table, count, k).expect("a thread"));
+                black_box(binding::thread(&table, count, k));
+            }
+            done();
+        },
+    );
+    let evaluator = least(
+        || {},
+        |done| {
+            for k in 0..255 {
+                black_box(evaluator::standing(&table, count, k).expect("a thread"));
+                black_box(evaluator::thread(&table, count, k).expect("a thread"));
+            }
+            done();
+        },
+    );
+    Row {
+        name: "255 placements, each by standing and thread".to_string(),
+        nodes: count,
+        steps: 0,
+        library,
+        evaluator: Some(evaluator),
+        floor: copy_floor(count),
+    }
 }
 
 fn row(what: &str, text: &[u8], table: &[u16], library: Duration, evaluator: Duration) -> Row {
