@@ -3,6 +3,8 @@
 #include "../include/mespindro.h"
 
 int printf(const char *, ...);
+int open(const char *, int, ...);
+int close(int);
 long read(int, void *, size_t);
 
 #define DEEP (6u << 20)
@@ -91,20 +93,73 @@ static void on_table(const char *input, size_t levels, uint32_t most) {
     told("run", input, r, levels);
 }
 
-/* the rule set on standard input, in one piece */
-static void rule_set(void) {
-    length = (size_t)read(0, text, MESPINDRO_TEXT);
-    reading("rules/leaf-48", 0);
+/* a rule set, whose file is read in one piece */
+static void rule_set(const char *file) {
+    int from = open(file, 0);
+    long got = from < 0 ? -1 : read(from, text, MESPINDRO_TEXT);
+    if (got < 0) {
+        printf("%s: not read\n", file);
+        return;
+    }
+    (void)close(from);
+    length = (size_t)got;
+    reading(file, 0);
     begin();
     nodes = mespindro_read(text, length, table, MESPINDRO_TABLE).count;
-    on_table("rules/leaf-48", 0, 10000);
+    on_table(file, 0, 10000);
 }
 
-int main(void) {
+/* a left spine: so many applications of c9 to the element */
+static void spine(int applications, uint16_t kind, uint16_t number) {
+    for (int i = 0; i < applications; i++)
+        node(7, 0);
+    node(4, 9);
+    for (int i = 0; i < applications; i++)
+        node(kind, number);
+}
+
+/* left spines beside a goal, in a closure beside a goal, and in a closure that is applied */
+static void spines(void) {
+    begin();
+    node(7, 0);
+    spine(1020, 3, 0);
+    node(10, 0);
+    node(3, 0);
+    node(4, 1);
+    node(0, 0);
+    on_table("a left spine of 1,020 applications beside a goal", 1020, 10);
+
+    begin();
+    node(7, 0);
+    node(7, 0);
+    node(4, 9);
+    node(6, 0);
+    node(1, 0);
+    spine(1017, 3, 0);
+    node(0, 0);
+    node(10, 0);
+    node(3, 0);
+    node(4, 1);
+    node(0, 0);
+    on_table("a left spine of 1,017 in a closure beside a goal", 1017, 10);
+
+    begin();
+    node(7, 0);
+    node(6, 0);
+    node(1, 0);
+    spine(1020, 2, 0);
+    node(0, 0);
+    node(4, 1);
+    node(0, 0);
+    on_table("a left spine of 1,020 in a body that a value is put into", 1020, 10);
+}
+
+int main(int files, char **file) {
     nested_text(0, "", "", "");
     /* once before, so that what a first call loads does not count */
     (void)mespindro_read(text, length, work, MESPINDRO_TABLE);
-    rule_set();
+    for (int i = 1; i < files; i++)
+        rule_set(file[i]);
     nested_text(0, "", "", "");
     reading("()", 0);
     nested_text(4912, "(1:n", "(1:c1:0)", ")");
@@ -198,13 +253,15 @@ int main(void) {
     node(3, 0);
     node(6, 0);
     node(1, 0);
-    for (int i = 0; i < 2036; i++)
+    for (int i = 0; i < 2038; i++)
         node(8, 0);
     node(4, 1);
     node(0, 0);
     node(3, 0);
     node(0, 0);
-    on_table("a closure of 2,036 nested fresh nodes, bound", 2036, 10);
+    on_table("a closure of 2,038 nested fresh nodes, bound", 2038, 10);
+
+    spines();
 
     /* x1 = c8 x0, x2 = c8 x1, ..: each value is looked at through the one before */
     begin();
