@@ -227,16 +227,16 @@ module _ (n : ℕ) (w : Bool) where
           go Scoped e = accepted refl (sound _ _ true (λ f. impossible (cc)))
 
 -- a run of one value in a table
-run : (l : List Bool) (lo hi k : ℕ) (x : Bool) → slice lo hi l ≡ replicate (hi - lo) x → lo ≤ k → k < hi → x ≡ getD l k false
-run l lo hi k x e h g =
+pub run : {A : Type 0} (l : List A) (d : A) (lo hi k : ℕ) (x : A) → slice lo hi l ≡ replicate (hi - lo) x → lo ≤ k → k < hi → x ≡ getD l k d
+run l d lo hi k x e h g =
     let i : lo + (k - lo) ≡ k = omega arith in
-    sym (rw e (getD-replicate (hi - lo) (k - lo) x false (omega arith))) ∙ getD-drop lo (take hi l) (k - lo) false ∙ ap (λ (j : ℕ). getD (take hi l) j false) i ∙ getD-take hi l k false g
+    sym (rw e (getD-replicate (hi - lo) (k - lo) x d (omega arith))) ∙ getD-drop lo (take hi l) (k - lo) d ∙ ap (λ (j : ℕ). getD (take hi l) j d) i ∙ getD-take hi l k d g
 
 -- the runs of kinds as the code tests them
 module _ (n k m : ℕ) where
   pub program-kinds : k < 2 → eqb m 0 ≡ may n program k m
   unfolding tests may
-  program-kinds h = run (tests n program m) 0 2 k _ refl (omega arith) h
+  program-kinds h = run (tests n program m) false 0 2 k _ refl (omega arith) h
 
   pub no-program-kinds : 2 ≤ k → false ≡ may n program k m
   unfolding tests may
@@ -244,11 +244,11 @@ module _ (n k m : ℕ) where
 
   pub early-kinds : k < 2 → false ≡ may n term k m
   unfolding tests may
-  early-kinds h = run (tests n term m) 0 2 k _ refl (omega arith) h
+  early-kinds h = run (tests n term m) false 0 2 k _ refl (omega arith) h
 
   pub index-kinds : 2 ≤ k → k < 4 → ltb m n ≡ may n term k m
   unfolding tests may
-  index-kinds h g = run (tests n term m) 2 4 k _ refl h g
+  index-kinds h g = run (tests n term m) false 2 4 k _ refl h g
 
   pub con-kind : k ≡ 4 → m < constructors → true ≡ may n term k m
   unfolding tests may
@@ -264,7 +264,7 @@ module _ (n k m : ℕ) where
 
   pub zero-kinds : 7 ≤ k → k < 11 → eqb m 0 ≡ may n term k m
   unfolding tests may
-  zero-kinds h g = run (tests n term m) 7 11 k _ refl h g
+  zero-kinds h g = run (tests n term m) false 7 11 k _ refl h g
 
   pub late-kinds : 11 ≤ k → false ≡ may n term k m
   unfolding tests may
