@@ -12,5 +12,6 @@ pub mod Walks
 pub mod Shortens
 pub mod Goals
 pub mod SolvedTrees
+pub mod Writing
 pub mod Passes
 pub mod Unified
