@@ -12,7 +12,7 @@ use Rattle.calculus.specs.declared.Standing.{Standing}
 use Rattle.calculus.specs.declared.Standing.the-variants.{Answer, Stuck, Open}
 use Rattle.calculus.specs.Tree.{term, program, unif, Tree, two, ok, preorder, nodes, threads, program-of}
 use Rattle.calculus.specs.Put.{substitute}
-use Rattle.calculus.specs.Good.{Closed, Coherent, All, Good}
+use Rattle.calculus.specs.Good.{InRange, Closed, Coherent, All, Good}
 use Rattle.calculus.specs.Redex.{Weak, plug}
 use Rattle.calculus.specs.Unifier.{Substitution, Solves, Unifier}
 use Rattle.calculus.specs.Reduction.{Rule, Rewrites, alloc, beta, fresh-variable, guard-passed, unified, failed}
@@ -37,15 +37,19 @@ use Rattle.text.proofs.RoundTrip.{accepted, good-read-only, good-written-only}
 use Rattle.promises.specs.Worked.{Readable, Writable, HasRead, HasWritten, Settled, HasStepped, HasRun, HasStood}
 use Rattle.promises.proofs.Admitted.{closed-stable, coherent-stable, good-table, table-good}
 
--- a good program's own numbers are a table that holds it, whatever stands behind them: what is said below is said of something
-pub front-table : {n : ℕ} {p : Tree program} (rest : List ℕ) → Good n p → TableOf n (preorder p ++ rest) (nodes p) p
-front-table {p = p} rest g = record {
+-- a program's own numbers are a table that holds it, whatever stands behind them
+pub front-held : {n : ℕ} {p : Tree program} (rest : List ℕ) → nodes p ≤ n → InRange n p → TableOf n (preorder p ++ rest) (nodes p) p
+front-held {p = p} rest l r = record {
   counts = refl;
-  small = g .small;
+  small = l;
   within = omega (arith, length-append (preorder p) rest, preorder-length p);
   is = take-at (preorder p) rest (2 * nodes p) (preorder-length p);
-  ranges = g .ranges;
+  ranges = r;
 }
+
+-- so are a good program's: what is said below is said of something
+pub front-table : {n : ℕ} {p : Tree program} (rest : List ℕ) → Good n p → TableOf n (preorder p ++ rest) (nodes p) p
+front-table rest g = front-held rest (g .small) (g .ranges)
 
 -- what an accepted read has read
 pub read-gives : {n : ℕ} {b out : List ℕ} {v : Values} {o : List ℕ} → Reads n b out v o → v .refusal ≡ 0 → HasRead n b out v o

@@ -1,3 +1,4 @@
 pub mod Exactly
 pub mod Worked
 pub mod Calls
+pub mod Boundaries
