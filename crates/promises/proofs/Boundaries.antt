@@ -508,8 +508,17 @@ guarded-stays : (room : ℕ) → run room 0 guarded ≡ record { reason = Steps;
 unfolding guarded substitute single structure value plug own redexes rewriting first step-thread step next-program run
 guarded-stays room = run-full next-program size {s = guarded} room refl
 
+con-ends : (room : ℕ) → run room 0 (con 1 ∷ []) ≡ record { reason = Ended; taken = 0; last = con 1 ∷ [] }
+unfolding own redexes first step-thread step next-program run
+con-ends room = run-ended next-program size {s = con 1 ∷ []} room 0 refl
+
 put-next : (t : Tree term) (k : ℕ) → next-program (put-into t k) ≡ some (result-of t k)
 put-next t k = next-of (put-into t k) (put-step t k)
+
+-- no step is asked for
+put-stays : (t : Tree term) (k room : ℕ) → run room 0 (put-into t k) ≡ record { reason = Steps; taken = 0; last = put-into t k }
+unfolding run
+put-stays t k room = run-full next-program size {s = put-into t k} room (put-next t k)
 
 -- the result does not fit the room
 put-stops : (t : Tree term) (k room : ℕ) → room < size (result-of t k) → run room 1 (put-into t k) ≡ record { reason = Room; taken = 0; last = put-into t k }
@@ -545,6 +554,9 @@ run-boundaries = record {
       let z = runs-to guarded (front-table (a ∷ []) guarded-good) guarded-good (omega arith) (guarded-run 5 0 (omega arith)) r in
       (z .0, z .1, run-gives r (refusal-of (z .0)) .cleared);
   no-steps = λ rest work v t w l r. runs-to guarded (front-table rest guarded-good) guarded-good (omega arith) (guarded-stays (room-of limit (preorder (program-of guarded) ++ rest) work)) r .0;
+  end-first = λ rest work v t w l r. runs-to (con 1 ∷ []) (front-table rest one-con) one-con (omega arith) (con-ends (room-of limit (preorder (program-of (con 1 ∷ [])) ++ rest) work)) r .0;
+  limit-first = λ {table} work v t w h l m r.
+      runs-to (twice 4) h (twice-good 4 (omega arith)) (omega (arith, h .counts, twice-nodes 4)) (put-stays pair 4 (room-of limit table work)) r .0 ∙ ap (λ (y : ℕ). stopped 2 y 0) (twice-nodes 4);
   room-in = λ work v t w h l m r. goes-once r 4 h (omega (arith, h .counts, twice-nodes 4)) (omega arith);
   table-short = λ work v t w h l m r. stops-at-once r pair 4 h (twice-good 4 (omega arith)) (omega (arith, h .counts, twice-nodes 4)) (omega (arith, twice-result 4)) ∙ ap (λ (y : ℕ). stopped 3 y 0) (sym (h .counts) ∙ twice-nodes 4);
   work-short = λ work v t w h l m r. stops-at-once r pair 4 h (twice-good 4 (omega arith)) (omega (arith, h .counts, twice-nodes 4)) (omega (arith, twice-result 4)) ∙ ap (λ (y : ℕ). stopped 3 y 0) (sym (h .counts) ∙ twice-nodes 4);

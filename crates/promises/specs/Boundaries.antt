@@ -151,6 +151,10 @@ pub record RunBoundaries : Type 0 where
       (v ≡ record { refusal = 0; values = 1 ∷ 3 ∷ 1 ∷ [] }) × (t ≡ 1 ∷ 0 ∷ 4 ∷ 2 ∷ 0 ∷ 0 ∷ 0 ∷ 0 ∷ 0 ∷ 0 ∷ 0 ∷ []) × (w ≡ replicate 10 0)
   -- "else the limit is used": of an open program with the limit 0
   pub no-steps : (rest work : List ℕ) (v : Values) (t w : List ℕ) → 10 ≤ length work → RunsWith limit (1 ∷ 0 ∷ 9 ∷ 0 ∷ 4 ∷ 1 ∷ 4 ∷ 2 ∷ 0 ∷ 0 ∷ rest) 5 work 0 v t w → v ≡ record { refusal = 0; values = 2 ∷ 5 ∷ 0 ∷ [] }
+  -- "in that order": an end is told before the limit, and the limit before the room
+  pub end-first : (rest work : List ℕ) (v : Values) (t w : List ℕ) → 6 ≤ length work → RunsWith limit (1 ∷ 0 ∷ 4 ∷ 1 ∷ 0 ∷ 0 ∷ rest) 3 work 0 v t w → v ≡ record { refusal = 0; values = 1 ∷ 3 ∷ 0 ∷ [] }
+  pub limit-first : {table : List ℕ} {count : ℕ} (work : List ℕ) (v : Values) (t w : List ℕ) → TableOf limit table count (program-of (twice 4)) → length table ≡ 39 → length work ≡ 39 → RunsWith limit table count work 0 v t w →
+      v ≡ record { refusal = 0; values = 2 ∷ 18 ∷ 0 ∷ [] }
   -- "else the next result exceeds the room": 18 nodes become 20, in tables of 20 nodes, and of which one has a number less
   pub room-in : {table : List ℕ} {count : ℕ} (work : List ℕ) (v : Values) (t w : List ℕ) → TableOf limit table count (program-of (twice 4)) → length table ≡ 40 → length work ≡ 40 → RunsWith limit table count work 1 v t w →
       v ≡ record { refusal = 0; values = 2 ∷ 20 ∷ 1 ∷ [] }
