@@ -2,14 +2,14 @@
 use mathlib.Core.Path.{_≡_, refl, sym, ap, _∙_}
 use mathlib.Core.Logic.{inl, inr}
 use mathlib.Core.List.{List, [], _∷_, _++_, append-assoc, append-nil, tail-eq-of-cons-eq}
-use mathlib.Core.Option.{none, some}
+use mathlib.Core.Option.{some}
 use Prim.Native.Nat.{ℕ, zero, suc, _+_, _*_, _≤_, _<_}
 use native.Mathlib.Omega.{arith}
 use lib.ListN.{length, take, length-append}
 use Rattle.calculus.specs.declared.Refusal.{Refusal}
 use Rattle.calculus.specs.declared.Refusal.the-variants.{NoProgram, TooLong, NotCanonical, OutOfPlace, BadNumber, NoBinder, TooManyNodes, Incoherent, NoRoom, NoThread}
 use Rattle.calculus.specs.declared.Reason.the-variants.{Ended, Steps, Room}
-use Rattle.calculus.specs.Tree.{Sort, term, program, app, guard, unif, code, at, Tree, empty, alt, bound, free, con, abs, fresh, two, preorder, nodes, threads, program-of}
+use Rattle.calculus.specs.Tree.{term, program, app, guard, unif, code, at, Tree, empty, alt, bound, free, con, abs, fresh, two, preorder, nodes, threads, program-of}
 use Rattle.calculus.specs.Good.{InRange, Closed, Coherent, All, Good}
 use Rattle.calculus.specs.Put.{put-in, substitute}
 use Rattle.calculus.specs.Value.{single, structure, value}
@@ -18,9 +18,9 @@ use Rattle.calculus.specs.Reduction.{by-beta, by-guard}
 use Rattle.calculus.specs.Step.{rewriting, first, step-thread, Step, step}
 use Rattle.calculus.specs.Run.{size, later, next-program, run, holds-nodes, room-of}
 use Rattle.calculus.specs.Sexp.{one, digits, decimal, Sexp, atom, list, nothing, more, bytes}
-use Rattle.calculus.specs.Text.{Raw, con-leaf, free-leaf, raw-empty, raw-alt, raw-leaf, encode, raw, raw-text, text}
+use Rattle.calculus.specs.Text.{Raw, free-leaf, raw-empty, raw-alt, raw-leaf, encode, raw, raw-text, text}
 use Rattle.calculus.specs.Answers.{number, Values}
-use Rattle.calculus.specs.Calls.{Refusals, Refuses, front, TextOf, read-refusals, Reads, TableOf, Writes, StepsTo, StepsInto, RunsWith, StandsAt}
+use Rattle.calculus.specs.Calls.{Refusals, Refuses, front, TextOf, read-refusals, Reads, TableOf, Writes, nodes-before, StepsTo, StepsInto, RunsWith, thread-refusals, part, no-part}
 use Rattle.calculus.specs.Known.{ascii}
 use Rattle.calculus.proofs.Substitutes.{impossible}
 use Rattle.calculus.proofs.Preorders.{nodes-positive, preorder-injective}
@@ -30,13 +30,13 @@ use Rattle.calculus.proofs.Texts.{raw-text-injective, text-injective}
 use Rattle.calculus.proofs.Machines.{run-ended, run-full, run-large, run-goes}
 use Rattle.calculus.proofs.Runs.{next-of}
 use Rattle.calculus.proofs.Refusals.{Ascends, read-ascends}
-use Rattle.calculus.proofs.Outcomes.{text-of-unique, table-of-unique}
+use Rattle.calculus.proofs.Outcomes.{text-of-unique, parts-once}
 use Rattle.mespindro.specs.Limit.{limit}
 use Rattle.text.proofs.RoundTrip.{good-read-only}
 use Rattle.promises.specs.Boundaries.{ReadGives, fresh-text, nested, fresh-numbers, ReadBoundaries, CallsGive, CallsAccept, TableBoundaries, fresh-over, closure, put-into, twice, twice-and-one, CallBoundaries, RunBoundaries}
 use Rattle.promises.proofs.Admitted.{good-table}
 use Rattle.promises.proofs.Refused.{reads-exactly, writes-exactly, steps-exactly, runs-exactly, stands-exactly}
-use Rattle.promises.proofs.Worked.{front-held, front-table, reads-iff, writes-iff, good-steps, good-stopped, run-gives, good-runs, good-writes}
+use Rattle.promises.proofs.Worked.{front-held, front-table, reads-iff, writes-iff, table-step, good-steps, good-stopped, run-gives, good-runs, good-writes}
 use Rattle.promises.proofs.Heads.{stands-accepted}
 use Rattle.promises.proofs.Excluded.{closures, OneAtMost, one-good, two-coherent, runs-to}
 
@@ -46,14 +46,15 @@ above [] k r a g = absurd g
 above (c ∷ cs) k r a (inl g) = omega (arith, a .0, ap number (g .1))
 above (c ∷ cs) k r a (inr g) = omega (arith, a .0, above cs (number (c .0)) r (a .1) (g .1))
 
-abbrev behind-first : Refusals → Refusals
-behind-first [] = []
-behind-first (c ∷ cs) = cs
+-- a list of refusals without its first
+abbrev behind : Refusals → Refusals
+behind [] = []
+behind (c ∷ cs) = cs
 
 -- 2 is the first number of a read, so it is given only where its condition holds
 two-only : (n : ℕ) (b out : List ℕ) → Refuses (read-refusals n b out) TooLong → 12 * n < length b
 two-only n b out (inl g) = g .0
-two-only n b out (inr g) = absurd (omega (arith, above (behind-first (read-refusals n b out)) 2 TooLong (read-ascends n b out .1) (g .1)))
+two-only n b out (inr g) = absurd (omega (arith, above (behind (read-refusals n b out)) 2 TooLong (read-ascends n b out .1) (g .1)))
 
 -- Every outcome of a read has the number of the first condition that holds: what a text is not, or what its program is not.
 module _ {n : ℕ} {b out : List ℕ} {v : Values} {o : List ℕ} (h : Reads n b out v o) (l : length b ≤ 12 * n) where
@@ -67,28 +68,35 @@ module _ {n : ℕ} {b out : List ℕ} {v : Values} {o : List ℕ} (h : Reads n b
   unfolding raw-text
   gives-5 r e f = reads-exactly h .refused BadNumber (inr ((λ k. omega arith), inr ((λ g. g (list (encode r)) e), inr ((λ g. g .1 .1 r e), inl ((r, (e, f)), refl)))))
 
+  -- the text of a program in range is given none of 2 to 5: the first of what is asked of the program itself decides
   module _ {p : Tree program} (t : TextOf n b p) where
+    of-program : (r : Refusal) → Refuses (behind (behind (behind (behind (read-refusals n b out))))) r → v .refusal ≡ number r
+    unfolding text raw-text
+    of-program r g = reads-exactly h .refused r (inr ((λ k. omega arith), inr ((λ f. f (list (encode (raw p))) (t .is)), inr ((λ f. f .1 .1 (raw p) (t .is)), inr ((λ f. f .1 .1 p t), g)))))
+
     same : (q : Tree program) → TextOf n b q → q ≡ p
     same q k = text-of-unique k t
 
+    not-6 : Closed 0 p → (q : Tree program) × (TextOf n b q × (Closed 0 q → ⊥)) → ⊥
+    not-6 c f = f .1 .1 (rw (same (f .0) (f .1 .0)) c)
+
+    not-7 : nodes p ≤ n → (q : Tree program) × (TextOf n b q × (n < nodes q)) → ⊥
+    not-7 m f = omega (arith, f .1 .1, ap nodes (same (f .0) (f .1 .0)))
+
+    not-8 : All Coherent (threads p) → (q : Tree program) × (TextOf n b q × (All Coherent (threads q) → ⊥)) → ⊥
+    not-8 c f = f .1 .1 (rw (same (f .0) (f .1 .0)) c)
+
     gives-6 : (Closed 0 p → ⊥) → v .refusal ≡ 6
-    unfolding text raw-text
-    gives-6 f = reads-exactly h .refused NoBinder (inr ((λ k. omega arith), inr ((λ g. g (list (encode (raw p))) (t .is)), inr ((λ g. g .1 .1 (raw p) (t .is)), inr ((λ g. g .1 .1 p t), inl ((p, (t, f)), refl))))))
+    gives-6 f = of-program NoBinder (inl ((p, (t, f)), refl))
 
     gives-7 : Closed 0 p → n < nodes p → v .refusal ≡ 7
-    unfolding text raw-text
-    gives-7 c m =
-        reads-exactly h .refused TooManyNodes (inr ((λ k. omega arith), inr ((λ g. g (list (encode (raw p))) (t .is)), inr ((λ g. g .1 .1 (raw p) (t .is)), inr ((λ g. g .1 .1 p t), inr ((λ g. g .1 .1 (rw (same (g .0) (g .1 .0)) c)), inl ((p, (t, m)), refl)))))))
+    gives-7 c m = of-program TooManyNodes (inr (not-6 c, inl ((p, (t, m)), refl)))
 
     gives-8 : Closed 0 p → nodes p ≤ n → (All Coherent (threads p) → ⊥) → v .refusal ≡ 8
-    unfolding text raw-text
-    gives-8 c m f =
-        reads-exactly h .refused Incoherent (inr ((λ k. omega arith), inr ((λ g. g (list (encode (raw p))) (t .is)), inr ((λ g. g .1 .1 (raw p) (t .is)), inr ((λ g. g .1 .1 p t), inr ((λ g. g .1 .1 (rw (same (g .0) (g .1 .0)) c)), inr ((λ g. omega (arith, g .1 .1, ap nodes (same (g .0) (g .1 .0)))), inl ((p, (t, f)), refl))))))))
+    gives-8 c m f = of-program Incoherent (inr (not-6 c, inr (not-7 m, inl ((p, (t, f)), refl))))
 
     gives-9 : Good n p → holds-nodes out < nodes p → v .refusal ≡ 9
-    unfolding text raw-text
-    gives-9 g m =
-        reads-exactly h .refused NoRoom (inr ((λ k. omega arith), inr ((λ f. f (list (encode (raw p))) (t .is)), inr ((λ f. f .1 .1 (raw p) (t .is)), inr ((λ f. f .1 .1 p t), inr ((λ f. f .1 .1 (rw (same (f .0) (f .1 .0)) (g .closed))), inr ((λ f. omega (arith, f .1 .1, g .small, ap nodes (same (f .0) (f .1 .0)))), inr ((λ f. f .1 .1 (rw (same (f .0) (f .1 .0)) (g .coherent))), inl ((p, (t, m)), refl)))))))))
+    gives-9 g m = of-program NoRoom (inr (not-6 (g .closed), inr (not-7 (g .small), inr (not-8 (g .coherent), inl ((p, (t, m)), refl)))))
 
 -- a text of a good program is read
 read-good : (p : Tree program) {b : List ℕ} → text p ≡ b → Good limit p → ReadGives b 0
@@ -235,11 +243,9 @@ unfolding raw
 no-variable-program empty e = impossible (cc)
 no-variable-program (alt t p) e = no-variable t (cc)
 
--- A text of document 01, and its program.
-module _ {b : List ℕ} (ts : List (Tree term)) (e : text (program-of ts) ≡ b) where
-  -- closed, in range, and with one allocated abstraction at most in a thread: it is read
-  read-one : size ts ≤ limit → InRange limit (program-of ts) → Closed 0 (program-of ts) → All (λ t. OneAtMost (closures t)) ts → ReadGives b 0
-  read-one m r c a = read-good (program-of ts) e (one-good ts m r c a)
+-- threads closed, in range, and each with one allocated abstraction at most: their text is read
+read-one : {b : List ℕ} (ts : List (Tree term)) → text (program-of ts) ≡ b → size ts ≤ limit → InRange limit (program-of ts) → Closed 0 (program-of ts) → All (λ t. OneAtMost (closures t)) ts → ReadGives b 0
+read-one ts e m r c a = read-good (program-of ts) e (one-good ts m r c a)
 
 chain-reads : (out : List ℕ) (v : Values) (o : List ℕ) → 4096 ≤ length out → Reads limit (nested 2045 (ascii "(1:c1:0)")) out v o →
     (v ≡ record { refusal = 0; values = 2048 ∷ [] }) × (o ≡ front (1 ∷ 0 ∷ fresh-numbers 2045 (4 ∷ 0 ∷ 0 ∷ 0 ∷ [])) out)
@@ -395,8 +401,8 @@ module _ {table : List ℕ} {count : ℕ} {p : Tree program} (t : TableOf limit 
   run-gives-9 h l = let a = good-table t g in runs-exactly h .refused NoRoom (inr (a .0, inr (a .1 .0, inr (a .1 .1 .0, inl (l, refl)))))
 
   -- 10: it has no more threads
-  stand-gives-10 : {k : ℕ} {v : Values} → StandsAt limit table count k v → length (threads p) ≤ k → v .refusal ≡ 10
-  stand-gives-10 h l = let a = good-table t g in stands-exactly h .refused NoThread (inr (a .0, inr (a .1 .0, inr (a .1 .1 .0, inl ((p, (t, l)), refl)))))
+  no-thread : {k : ℕ} → length (threads p) ≤ k → Refuses (thread-refusals limit table count k) NoThread
+  no-thread l = let a = good-table t g in inr (a .0, inr (a .1 .0, inr (a .1 .1 .0, inl ((p, (t, l)), refl))))
 
   module _ {s : Step} (e : step (threads p) ≡ some s) {out : List ℕ} {v : Values} {o : List ℕ} (h : StepsInto limit table count out v o) where
     -- 7 of a step: its result is beyond the limit
@@ -407,13 +413,17 @@ module _ {table : List ℕ} {count : ℕ} {p : Tree program} (t : TableOf limit 
     step-gives-9 : size (s .result) ≤ limit → holds-nodes out < size (s .result) → v .refusal ≡ 9
     step-gives-9 m l =
         let a = good-table t g in
-        let one-step : (q : Tree program) (x : Step) → StepsTo limit table count q x → size (x .result) ≡ size (s .result) = λ q x k. let i = ap (λ (y : Tree program). step (threads y)) (table-of-unique t (k .table-of)) ∙ k .steps in cc in
+        let one-step : (q : Tree program) (x : Step) → StepsTo limit table count q x → size (x .result) ≡ size (s .result) = λ q x k. let i = table-step t k in cc in
         steps-exactly h .refused NoRoom (inr (a .0, inr (a .1 .0, inr ((λ k. omega (arith, k .1 .1 .1 .1, one-step (k .0) (k .1 .0) (k .1 .1 .0))), inr (a .1 .1 .0, inl ((p, (s, (record { table-of = t; steps = e }, l))), refl))))))
 
--- `(c1)` and `((g c1 c2))`
+-- `(c1)`, `(c1 c2)` and `((g c1 c2))`
 one-con : Good limit (program-of (con 1 ∷ []))
 unfolding nodes program-of closures
 one-con = one-good (con 1 ∷ []) (omega arith) (omega arith) (tt, tt) (tt, tt)
+
+two-con : Good limit (program-of (con 1 ∷ con 2 ∷ []))
+unfolding nodes program-of closures
+two-con = one-good (con 1 ∷ con 2 ∷ []) (omega arith) (omega arith) (omega arith) (tt, (tt, tt))
 
 guarded : List (Tree term)
 guarded = two guard (con 1) (con 2) ∷ []
@@ -483,7 +493,7 @@ accepts : ℕ → Values
 accepts k = record { refusal = 0; values = k ∷ [] }
 
 pub call-boundaries : CallBoundaries
-unfolding ascii preorder nodes threads program-of digits decimal bytes encode raw raw-text text guarded step accepts
+unfolding ascii preorder nodes threads program-of digits decimal bytes encode raw raw-text text guarded step accepts nodes-before
 call-boundaries = record {
   write-in = λ rest out v o l h. writes-iff h .1 (record { program = program-of (con 1 ∷ []); table-of = front-table rest one-con; good = one-con; held = omega arith });
   write-out = λ rest out v o l h. write-gives-9 (front-table rest one-con) one-con h (omega arith);
@@ -495,7 +505,9 @@ call-boundaries = record {
   run-in = λ rest work k v t w l h. refusal-of (good-runs (front-table rest one-con) one-con (omega arith) h .0);
   run-out = λ rest work k v t w l h. run-gives-9 (front-table rest one-con) one-con h (omega arith);
   thread-in = λ {k = k} t g l h. stands-exactly h .accepted (stands-accepted k t g l);
-  thread-out = λ t g l h. stand-gives-10 t g h l;
+  thread-out = λ t g l h. stands-exactly h .refused NoThread (no-thread t g l);
+  part-in = λ rest start l h. parts-once h (part (con 2) (stands-accepted 1 (front-table rest two-con) two-con (omega arith)) (record { before = con 1 ∷ []; after = []; table-of = front-table rest two-con; place = refl }));
+  part-out = λ rest start l h. parts-once h (no-part NoThread (no-thread (front-table rest two-con) two-con (omega arith)));
 }
 
 -- The run.

@@ -84,7 +84,7 @@ write-gives (not-written r g) e = absurd (omega (arith, number-positive r))
 -- writing is accepted exactly where a good program stands whose text fits the output
 pub writes-iff : {n : ℕ} {table : List ℕ} {count : ℕ} {out : List ℕ} {v : Values} {o : List ℕ} → Writes n table count out v o → (v .refusal ≡ 0) ↔ Writable n table count out
 writes-iff h = (
-  (λ e. let r = write-gives h e in record { program = r .program; table-of = r .table-of; good = r .good; held = r .fits }),
+  (λ e. let r = write-gives h e in record { program = r .program; table-of = r .table-of; good = r .good; held = omega (arith, r .fits) }),
   (λ f. ap (λ (x : Values). x .refusal) (good-written-only (f .good) (f .table-of) (omega (arith, f .held)) h .0)),
 )
 
@@ -155,7 +155,7 @@ module _ {n : ℕ} {table : List ℕ} {count : ℕ} where
       go (inr (a, inr (b, inr (c, inr (d, inr (f, inr (i, h))))))) = absurd h
 
   -- a step of the table is a step of the program in it
-  table-step : {p q : Tree program} {s : Step} → TableOf n table count p → StepsTo n table count q s → step (threads p) ≡ some s
+  pub table-step : {p q : Tree program} {s : Step} → TableOf n table count p → StepsTo n table count q s → step (threads p) ≡ some s
   table-step t k = ap (λ (x : Tree program). step (threads x)) (table-of-unique t (k .table-of)) ∙ k .steps
 
   -- a good program in a table is stepped into an output with room for the result

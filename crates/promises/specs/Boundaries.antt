@@ -8,7 +8,7 @@ use lib.ListN.{length, replicate}
 use Rattle.calculus.specs.Tree.{term, program, app, at, Tree, empty, alt, bound, con, abs, fresh, two, threads, program-of}
 use Rattle.calculus.specs.Good.{Good}
 use Rattle.calculus.specs.Answers.{Values}
-use Rattle.calculus.specs.Calls.{front, Reads, TableOf, Writes, StepsInto, RunsWith, StandsAt}
+use Rattle.calculus.specs.Calls.{front, Reads, TableOf, Writes, StepsInto, RunsWith, StandsAt, PartAt}
 use Rattle.calculus.specs.Known.{ascii}
 use Rattle.mespindro.specs.Limit.{limit}
 
@@ -142,6 +142,9 @@ pub record CallBoundaries : Type 0 where
   -- 10: "there is no thread of that number", which counts from 0
   pub thread-in : {table : List ℕ} {count k : ℕ} {p : Tree program} {v : Values} → TableOf limit table count p → Good limit p → k < length (threads p) → StandsAt limit table count k v → v .refusal ≡ 0
   pub thread-out : {table : List ℕ} {count k : ℕ} {p : Tree program} {v : Values} → TableOf limit table count p → Good limit p → length (threads p) ≤ k → StandsAt limit table count k v → v .refusal ≡ 10
+  -- "that thread's own part of the caller's table": of the second thread of `(c1 c2)`, from the number 6 on, two numbers; of a third nothing
+  pub part-in : (rest : List ℕ) (start : ℕ) (l : List ℕ) → PartAt limit (1 ∷ 0 ∷ 4 ∷ 1 ∷ 1 ∷ 0 ∷ 4 ∷ 2 ∷ 0 ∷ 0 ∷ rest) 5 1 start l → (start ≡ 6) × (l ≡ 4 ∷ 2 ∷ [])
+  pub part-out : (rest : List ℕ) (start : ℕ) (l : List ℕ) → PartAt limit (1 ∷ 0 ∷ 4 ∷ 1 ∷ 1 ∷ 0 ∷ 4 ∷ 2 ∷ 0 ∷ 0 ∷ rest) 5 2 start l → (start ≡ 0) × (l ≡ [])
 
 -- The run: reasons 1 (ended), 2 (steps) and 3 (room), the nodes, the steps taken.
 pub record RunBoundaries : Type 0 where
