@@ -1,5 +1,5 @@
--- Document 01's boundaries over the calls, in its own numbers and texts: each just inside and just outside, of every outcome that the contracts allow with the
--- node limit of the calls. Of that limit nothing is said but its name: a call with another one does not meet these.
+-- Document 01's boundaries over the calls, in its own numbers and texts: each just inside and just outside, of every outcome that the contracts allow. The node
+-- limit stands by its name, and what is given to the calls by its numbers: with another limit than 2,048 these would not hold.
 use mathlib.Core.Path.{_≡_}
 use mathlib.Core.Logic.{_↔_}
 use mathlib.Core.List.{List, [], _∷_, _++_}
@@ -158,7 +158,7 @@ pub record RunBoundaries : Type 0 where
   pub end-first : (rest work : List ℕ) (v : Values) (t w : List ℕ) → 6 ≤ length work → RunsWith limit (1 ∷ 0 ∷ 4 ∷ 1 ∷ 0 ∷ 0 ∷ rest) 3 work 0 v t w → v ≡ record { refusal = 0; values = 1 ∷ 3 ∷ 0 ∷ [] }
   pub limit-first : {table : List ℕ} {count : ℕ} (work : List ℕ) (v : Values) (t w : List ℕ) → TableOf limit table count (program-of (twice 4)) → length table ≡ 39 → length work ≡ 39 → RunsWith limit table count work 0 v t w →
       v ≡ record { refusal = 0; values = 2 ∷ 18 ∷ 0 ∷ [] }
-  -- "else the next result exceeds the room": 18 nodes become 20, in tables of 20 nodes, and of which one has a number less
+  -- "else the next result exceeds the room": 18 nodes become 20, in two tables of 20 nodes, and where one of them is a number shorter
   pub room-in : {table : List ℕ} {count : ℕ} (work : List ℕ) (v : Values) (t w : List ℕ) → TableOf limit table count (program-of (twice 4)) → length table ≡ 40 → length work ≡ 40 → RunsWith limit table count work 1 v t w →
       v ≡ record { refusal = 0; values = 2 ∷ 20 ∷ 1 ∷ [] }
   pub table-short : {table : List ℕ} {count : ℕ} (work : List ℕ) (v : Values) (t w : List ℕ) → TableOf limit table count (program-of (twice 4)) → length table ≡ 39 → length work ≡ 40 → RunsWith limit table count work 1 v t w →
