@@ -29,22 +29,16 @@ use Rattle.calculus.proofs.Bytes.{first-byte, bytes-injective}
 use Rattle.calculus.proofs.Texts.{raw-text-injective, text-injective}
 use Rattle.calculus.proofs.Machines.{run-ended, run-full, run-large, run-goes}
 use Rattle.calculus.proofs.Runs.{next-of}
-use Rattle.calculus.proofs.Refusals.{Ascends, read-ascends}
+use Rattle.calculus.proofs.Refusals.{read-ascends}
 use Rattle.calculus.proofs.Outcomes.{text-of-unique, parts-once}
 use Rattle.mespindro.specs.Limit.{limit}
 use Rattle.text.proofs.RoundTrip.{good-read-only}
 use Rattle.promises.specs.Boundaries.{ReadGives, fresh-text, nested, fresh-numbers, ReadBoundaries, CallsGive, CallsAccept, TableBoundaries, fresh-over, closure, put-into, twice, twice-and-one, CallBoundaries, RunBoundaries}
 use Rattle.promises.proofs.Admitted.{good-table}
-use Rattle.promises.proofs.Refused.{reads-exactly, writes-exactly, steps-exactly, runs-exactly, stands-exactly}
+use Rattle.promises.proofs.Refused.{refused-above, reads-exactly, writes-exactly, steps-exactly, runs-exactly, stands-exactly}
 use Rattle.promises.proofs.Worked.{front-held, front-table, reads-iff, writes-iff, table-step, good-steps, good-stopped, run-gives, good-runs, good-writes}
 use Rattle.promises.proofs.Heads.{stands-accepted}
 use Rattle.promises.proofs.Excluded.{closures, OneAtMost, one-good, two-coherent, runs-to}
-
--- the numbers of a list that ascends from k are above it
-above : (cs : Refusals) (k : ℕ) (r : Refusal) → Ascends k cs → Refuses cs r → k < number r
-above [] k r a g = absurd g
-above (c ∷ cs) k r a (inl g) = omega (arith, a .0, ap number (g .1))
-above (c ∷ cs) k r a (inr g) = omega (arith, a .0, above cs (number (c .0)) r (a .1) (g .1))
 
 -- a list of refusals without its first
 abbrev behind : Refusals → Refusals
@@ -54,7 +48,7 @@ behind (c ∷ cs) = cs
 -- 2 is the first number of a read, so it is given only where its condition holds
 two-only : (n : ℕ) (b out : List ℕ) → Refuses (read-refusals n b out) TooLong → 12 * n < length b
 two-only n b out (inl g) = g .0
-two-only n b out (inr g) = absurd (omega (arith, above (behind (read-refusals n b out)) 2 TooLong (read-ascends n b out .1) (g .1)))
+two-only n b out (inr g) = absurd (omega (arith, refused-above (behind (read-refusals n b out)) 2 TooLong (read-ascends n b out .1) (g .1)))
 
 -- Every outcome of a read has the number of the first condition that holds: what a text is not, or what its program is not.
 module _ {n : ℕ} {b out : List ℕ} {v : Values} {o : List ℕ} (h : Reads n b out v o) (l : length b ≤ 12 * n) where
