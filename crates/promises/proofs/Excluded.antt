@@ -91,6 +91,27 @@ one-coherent t h = go (closures t) h (λ l q. holds-among l q t)
     }
     go (c ∷ d ∷ cs) o f = absurd o
 
+-- so is a thread with two, at two locations
+pub two-coherent : (t : Tree term) (c d : ℕ × Tree program) → closures t ≡ c ∷ d ∷ [] → (c .0 ≡ d .0 → ⊥) → Closed 1 (c .1) → Closed 1 (d .1) → Coherent t
+two-coherent t c d e f x y = go (λ l q h. rw e at (holds-among l q t h))
+  where
+    same : (l : ℕ) (p q : Tree program) → Among l p (c ∷ d ∷ []) → Among l q (c ∷ d ∷ []) → p ≡ q
+    same l p q (inl i) (inl j) = sym (i .1) ∙ j .1
+    same l p q (inl i) (inr (inl j)) = absurd (f (i .0 ∙ sym (j .0)))
+    same l p q (inl i) (inr (inr j)) = absurd j
+    same l p q (inr (inl i)) (inl j) = absurd (f (j .0 ∙ sym (i .0)))
+    same l p q (inr (inl i)) (inr (inl j)) = sym (i .1) ∙ j .1
+    same l p q (inr (inl i)) (inr (inr j)) = absurd j
+    same l p q (inr (inr i)) j = absurd i
+
+    body : (l : ℕ) (p : Tree program) → Among l p (c ∷ d ∷ []) → Closed 1 p
+    body l p (inl i) = rw (i .1) at x
+    body l p (inr (inl i)) = rw (i .1) at y
+    body l p (inr (inr i)) = absurd i
+
+    go : ((l : ℕ) (q : Tree program) → Holds l q t → Among l q (c ∷ d ∷ [])) → Coherent t
+    go g = record { within = λ l p h. body l p (g l p h); equal = λ l p q h k. same l p q (g l p h) (g l q k) }
+
 -- threads within the limit and in range are a good program if they are closed and have one allocated abstraction at most
 pub one-good : {n : ℕ} (ts : List (Tree term)) → size ts ≤ n → InRange n (program-of ts) → Closed 0 (program-of ts) → All (λ t. OneAtMost (closures t)) ts → Good n (program-of ts)
 one-good ts l r c o = record { small = l; ranges = r; closed = c; coherent = rw threads-of-program (all-each (λ t. OneAtMost (closures t)) Coherent ts one-coherent o) }

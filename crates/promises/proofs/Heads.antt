@@ -5,7 +5,7 @@ use mathlib.Core.Bool.{Bool, true, false}
 use mathlib.Core.List.{List, [], _∷_, _++_, append-assoc}
 use Prim.Native.Nat.{ℕ, _+_, _*_, _-_, _≤_, _<_}
 use native.Mathlib.Omega.{arith}
-use lib.ListN.{length, getD, take, drop, replicate, length-append, take-append-drop}
+use lib.ListN.{length, take, drop, replicate, length-append, take-append-drop}
 use lib.Seq.{take-at, take-take}
 use Rattle.calculus.specs.Tree.{term, program, Tree, empty, alt, preorder, nodes, threads, program-of, head-numbers}
 use Rattle.calculus.specs.Good.{All, Good}
@@ -21,12 +21,9 @@ use Rattle.calculus.proofs.Refusals.{accepted-not-refused}
 use Rattle.calculus.proofs.Outcomes.{table-of-unique}
 use Rattle.calculus.proofs.Runs.{program-run-only, finished-head-is, Movable, finished-head-quiet, demand-three}
 use Rattle.promises.specs.Worked.{HasRun}
+use Rattle.promises.specs.Heads.{size-told, DemandThreeTables, DemandThreeEnd, SaysFinished}
 use Rattle.promises.proofs.Admitted.{good-table}
 use Rattle.promises.proofs.Worked.{run-gives}
-
--- the node count that an accepted run tells, the second of its values
-abbrev pub size-told : Values → ℕ
-size-told v = getD (v .values) 1 0
 
 -- the numbers of the threads ts are the front of a program's table: that program has ts and then others
 begins : (ts : List (Tree term)) (p : Tree program) (r : List ℕ) → preorder p ≡ head-numbers ts ++ r → (us : List (Tree term)) × (p ≡ program-of (ts ++ us))
@@ -94,32 +91,23 @@ module _ {n : ℕ} {table table′ : List ℕ} {count count′ : ℕ} {work work
       let m = 2 * (size (finished-head E) - 1) in
       rw d (ap (take m) b′ ∙ head-front table′ (finished-head E) rest ∙ sym (ap (take m) b ∙ head-front table (finished-head E) more))
 
-  -- Demand 3 on the numbers alone: where the first table but for its last node begins the second, the finished head that the first run leaves begins what the second leaves
-  pub demand-three-tables : RunsWith n table count work k v t w → v .refusal ≡ 0 → RunsWith n table′ count′ work′ k′ v′ t′ w′ → v′ .refusal ≡ 0 →
-      count ≤ count′ → take (2 * (count - 1)) table′ ≡ take (2 * (count - 1)) table →
-      k ≤ k′ → room-of n table work + (count′ - count) ≤ room-of n table′ work′ →
-      (e : Tree program) → TableOf n t (size-told v) e →
-      let m = 2 * (size (finished-head (threads e)) - 1) in take m t′ ≡ take m t
-  demand-three-tables r z r′ z′ o s l c e g =
-      let h = run-gives r z .table-of in
-      let h′ = run-gives r′ z′ .table-of in
-      let p = threads (run-gives r z .program) in
-      let q = run-gives r′ z′ .program in
-      let a = head-there h in
-      let b : take (2 * (count - 1)) (preorder q) ≡ head-numbers p = ap (take (2 * (count - 1))) (sym (h′ .is)) ∙ take-take (2 * (count - 1)) (2 * count′) table′ (omega arith) ∙ s ∙ a in
-      let (us, i) = begins p q (drop (2 * (count - 1)) (preorder q)) (sym (take-append-drop (2 * (count - 1)) (preorder q)) ∙ ap (λ (x : List ℕ). x ++ drop (2 * (count - 1)) (preorder q)) b) in
-      let f : TableOf n table count (program-of p) = rw program-of-threads h in
-      let f′ : TableOf n table′ count′ (program-of (p ++ us)) = rw i at h′ in
-      demand-three-calls p us f f′ r z r′ z′ l (omega (arith, f .counts, f′ .counts, size-append p us, nodes-positive (program-of us))) e g
+-- Demand 3 on the numbers alone: where the first table but for its last node begins the second, the finished head that the first run leaves begins what the second leaves
+pub demand-three-tables : DemandThreeTables
+demand-three-tables n a b f e g =
+    let h = run-gives (a .runs) (a .accepted) .table-of in
+    let h′ = run-gives (b .runs) (b .accepted) .table-of in
+    let p = threads (run-gives (a .runs) (a .accepted) .program) in
+    let q = run-gives (b .runs) (b .accepted) .program in
+    let m = 2 * (a .count - 1) in
+    let i : take m (preorder q) ≡ head-numbers p = ap (take m) (sym (h′ .is)) ∙ take-take m (2 * b .count) (b .table) (omega (arith, f .nodes)) ∙ f .begins ∙ head-there h in
+    let (us, j) = begins p q (drop m (preorder q)) (sym (take-append-drop m (preorder q)) ∙ ap (λ (x : List ℕ). x ++ drop m (preorder q)) i) in
+    let k : TableOf n (a .table) (a .count) (program-of p) = rw program-of-threads h in
+    let k′ : TableOf n (b .table) (b .count) (program-of (p ++ us)) = rw j at h′ in
+    demand-three-calls p us k k′ (a .runs) (a .accepted) (b .runs) (b .accepted) (f .steps) (omega (arith, f .room, k .counts, k′ .counts, size-append p us, nodes-positive (program-of us))) e g
 
-  -- Demand 3 on the numbers, of the end that the first run left: a finished alternative at its head is never revised
-  pub demand-three-end : (r : RunsWith n table count work k v t w) (z : v .refusal ≡ 0) → RunsWith n table′ count′ work′ k′ v′ t′ w′ → v′ .refusal ≡ 0 →
-      count ≤ count′ → take (2 * (count - 1)) table′ ≡ take (2 * (count - 1)) table →
-      k ≤ k′ → room-of n table work + (count′ - count) ≤ room-of n table′ work′ →
-      let m = 2 * (size (finished-head (run-gives r z .end .last)) - 1) in take m t′ ≡ take m t
-  demand-three-end r z r′ z′ o s l c =
-      let h = run-gives r z in
-      rw threads-of-program at (demand-three-tables r z r′ z′ o s l c (program-of (h .end .last)) (end-there h))
+-- so of the end that the first run is defined to have
+pub demand-three-end : DemandThreeEnd
+demand-three-end n a b f h = rw threads-of-program at (demand-three-tables n a b f (program-of (h .end .last)) (end-there h))
 
 -- the finished head is no longer than the threads
 head-shorter : (ts : List (Tree term)) → length (finished-head ts) ≤ length ts
@@ -152,10 +140,6 @@ head-open (x ∷ before) t after h = go (finished x) refl (head-open before t af
     go : (b : Bool) → finished x ≡ b → (length before ≡ length (finished-head (before ++ (t ∷ after))) → finished t ≡ false) → finished t ≡ false
     go true e f = f (omega (arith, rw (e, finished-head) at h))
     go false e f = absurd (omega (arith, rw (e, finished-head) at h))
-
--- what the standing call says of a finished thread: answer or stuck
-abbrev pub SaysFinished : Values → Type 0
-SaysFinished s = (s .refusal ≡ 0) × ((s .values ≡ 1 ∷ []) ⊎ (s .values ≡ 2 ∷ []))
 
 finished-code : (t : Tree term) → finished t ≡ true → SaysFinished (record { refusal = 0; values = standingCode (standing t) ∷ [] })
 unfolding standing

@@ -5,3 +5,4 @@ pub mod Worked
 pub mod Heads
 pub mod Excluded
 pub mod Starred
+pub mod Boundaries

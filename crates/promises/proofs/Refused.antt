@@ -49,6 +49,12 @@ exactly-refused cs r u g = record {
   lowest = λ m h. (number-positive r, lowest cs 0 r m u g h);
 }
 
+-- the numbers of a list that ascends from k are above it
+pub refused-above : (cs : Refusals) (k : ℕ) (r : Refusal) → Ascends k cs → Refuses cs r → k < number r
+refused-above [] k r a g = absurd g
+refused-above (c ∷ cs) k r a (inl g) = omega (arith, a .0, ap number (g .1))
+refused-above (c ∷ cs) k r a (inr g) = omega (arith, a .0, refused-above cs (number (c .0)) r (a .1) (g .1))
+
 -- it is not denied that a list accepts or refuses
 settled : (cs : Refusals) → Undenied (Accepts cs ⊎ ((r : Refusal) × Refuses cs r))
 settled [] f = f (inl tt)

@@ -1,23 +1,28 @@
 -- Demand 2 over the calls: what every outcome that a contract allows has worked, for any node limit n.
-use mathlib.Core.Path.{_≡_, refl, ap, _∙_}
-use mathlib.Core.Logic.{_↔_, Iff·trans, inl, inr}
+use mathlib.Core.Path.{_≡_, refl, sym, ap, _∙_}
+use mathlib.Core.Logic.{_⊎_, _↔_, Iff·trans, inl, inr}
 use mathlib.Core.List.{List, [], _∷_, _++_}
 use mathlib.Core.Option.{none, some}
 use Prim.Native.Nat.{ℕ, _*_, _-_, _≤_, _<_}
 use native.Mathlib.Omega.{arith}
-use lib.ListN.{length, getD, drop, replicate, length-append}
+use lib.ListN.{length, getD, take, drop, replicate, length-append}
 use lib.Seq.{take-at}
 use Rattle.calculus.specs.declared.Refusal.the-variants.{Finished}
 use Rattle.calculus.specs.declared.Standing.{Standing}
 use Rattle.calculus.specs.declared.Standing.the-variants.{Answer, Stuck, Open}
-use Rattle.calculus.specs.Tree.{term, program, Tree, preorder, nodes, threads, program-of}
-use Rattle.calculus.specs.Good.{Closed, Coherent, All, Good}
+use Rattle.calculus.specs.Tree.{term, program, unif, Tree, two, ok, preorder, nodes, threads, program-of}
+use Rattle.calculus.specs.Put.{substitute}
+use Rattle.calculus.specs.Good.{InRange, Closed, Coherent, All, Good}
+use Rattle.calculus.specs.Redex.{Weak, plug}
+use Rattle.calculus.specs.Unifier.{Substitution, Solves, Unifier}
+use Rattle.calculus.specs.Reduction.{Rule, Rewrites, alloc, beta, fresh-variable, guard-passed, unified, failed}
+use Rattle.calculus.specs.Choice.{LeastNames, Chosen}
 use Rattle.calculus.specs.Normal.{Normal}
 use Rattle.calculus.specs.Step.{Step, step, standing}
 use Rattle.calculus.specs.Run.{End, size, run, holds-nodes, room-of}
 use Rattle.calculus.specs.Text.{text}
 use Rattle.calculus.specs.Answers.{number, standingCode, Values}
-use Rattle.calculus.specs.Calls.{Refuses, front, Reads, read, refused, TableOf, Writes, StepsTo, step-refusals, StepsInto, stepped, not-stepped, end-table, ran-values, RunsWith, ran, not-run, StandsAt, stands, not-stood}
+use Rattle.calculus.specs.Calls.{Refuses, front, Reads, read, refused, TableOf, Writes, written, not-written, StepsTo, step-refusals, StepsInto, stepped, not-stepped, end-table, ran-values, RunsWith, ran, not-run, StandsAt, stands, not-stood}
 use Rattle.calculus.proofs.Substitutes.{impossible}
 use Rattle.calculus.proofs.Answers.{number-positive, standing-injective}
 use Rattle.calculus.proofs.Alls.{all-threads, all-both, all-at}
@@ -29,18 +34,22 @@ use Rattle.calculus.proofs.Runs.{program-run-is}
 use Rattle.calculus.proofs.Preservation.{good-closed, good-coherent, step-good, run-good, run-choices, run-reductions}
 use Rattle.calculus.proofs.Outcomes.{table-of-unique, steps-once, runs-once}
 use Rattle.text.proofs.RoundTrip.{accepted, good-read-only, good-written-only}
-use Rattle.promises.specs.Worked.{HasRead, HasStepped, HasRun, HasStood}
+use Rattle.promises.specs.Worked.{Readable, Writable, HasRead, HasWritten, Settled, HasStepped, HasRun, HasStood}
 use Rattle.promises.proofs.Admitted.{closed-stable, coherent-stable, good-table, table-good}
 
--- a good program's own numbers are a table that holds it, whatever stands behind them: what is said below is said of something
-pub front-table : {n : ℕ} {p : Tree program} (rest : List ℕ) → Good n p → TableOf n (preorder p ++ rest) (nodes p) p
-front-table {p = p} rest g = record {
+-- a program's own numbers are a table that holds it, whatever stands behind them
+pub front-held : {n : ℕ} {p : Tree program} (rest : List ℕ) → nodes p ≤ n → InRange n p → TableOf n (preorder p ++ rest) (nodes p) p
+front-held {p = p} rest l r = record {
   counts = refl;
-  small = g .small;
+  small = l;
   within = omega (arith, length-append (preorder p) rest, preorder-length p);
   is = take-at (preorder p) rest (2 * nodes p) (preorder-length p);
-  ranges = g .ranges;
+  ranges = r;
 }
+
+-- so are a good program's: what is said below is said of something
+pub front-table : {n : ℕ} {p : Tree program} (rest : List ℕ) → Good n p → TableOf n (preorder p ++ rest) (nodes p) p
+front-table rest g = front-held rest (g .small) (g .ranges)
 
 -- what an accepted read has read
 pub read-gives : {n : ℕ} {b out : List ℕ} {v : Values} {o : List ℕ} → Reads n b out v o → v .refusal ≡ 0 → HasRead n b out v o
@@ -57,17 +66,53 @@ read-gives {n} {b} {out} (read p a t) e =
 read-gives (refused r g) e = absurd (omega (arith, number-positive r))
 
 -- reading is accepted exactly of the texts of good programs that fit the output
-pub reads-iff : {n : ℕ} {b out : List ℕ} → n ≤ 65536 →
-    let fits = (p : Tree program) × (Good n p × ((text p ≡ b) × (nodes p ≤ holds-nodes out))) in
-    ((v : Values) (o : List ℕ) → Reads n b out v o → v .refusal ≡ 0 → fits) × (fits → (v : Values) (o : List ℕ) → Reads n b out v o → v .refusal ≡ 0)
-reads-iff l = (
-  (λ v o h e. let r = read-gives h e in (r .program, (r .good, (r .is, r .fits)))),
-  (λ f v o h. ap (λ (x : Values). x .refusal) (good-read-only (f .1 .0) l (f .1 .1 .1) (rw (← f .1 .1 .0) at h) .0)),
+pub reads-iff : {n : ℕ} {b out : List ℕ} {v : Values} {o : List ℕ} → n ≤ 65536 → Reads n b out v o → (v .refusal ≡ 0) ↔ Readable n b out
+reads-iff l h = (
+  (λ e. let r = read-gives h e in record { program = r .program; good = r .good; is = r .is; held = omega (arith, r .good .small, r .fits) }),
+  (λ f. ap (λ (x : Values). x .refusal) (good-read-only (f .good) l (omega (arith, f .good .small, f .held)) (rw (← f .is) at h) .0)),
+)
+
+-- what an accepted write has written
+pub write-gives : {n : ℕ} {table : List ℕ} {count : ℕ} {out : List ℕ} {v : Values} {o : List ℕ} → Writes n table count out v o → v .refusal ≡ 0 → HasWritten n table count out v o
+write-gives {n} {out = out} (written p a t) e =
+    let fits : length out < length (text p) → ⊥ = λ h. a .1 .1 .1 .0 (p, (t, h)) in
+    let good : Good n p = table-good (a .0, (a .1 .0, (a .1 .1 .0, tt))) t in
+    let there : take (length (text p)) (front (text p) out) ≡ text p = take-at (text p) (drop (length (text p)) out) (length (text p)) refl in
+    record { program = p; table-of = t; good = good; fits = omega arith; values = refl; left = refl; back = λ l r h. good-read-only good l r (rw there at h) }
+write-gives (not-written r g) e = absurd (omega (arith, number-positive r))
+
+-- writing is accepted exactly where a good program stands whose text fits the output
+pub writes-iff : {n : ℕ} {table : List ℕ} {count : ℕ} {out : List ℕ} {v : Values} {o : List ℕ} → Writes n table count out v o → (v .refusal ≡ 0) ↔ Writable n table count out
+writes-iff h = (
+  (λ e. let r = write-gives h e in record { program = r .program; table-of = r .table-of; good = r .good; held = omega (arith, r .fits) }),
+  (λ f. ap (λ (x : Values). x .refusal) (good-written-only (f .good) (f .table-of) (omega (arith, f .held)) h .0)),
 )
 
 -- a code is that of one standing
 code-told : (s r : Standing) → (standingCode s ∷ [] ≡ standingCode r ∷ []) ↔ (s ≡ r)
 code-told s r = (λ e. standing-injective s r (ap (λ (l : List ℕ). getD l 0 0) e), ap (λ (x : Standing). standingCode x ∷ []))
+
+-- threads with one more among them are others
+one-among : (before : List (Tree term)) (t : Tree term) (after : List (Tree term)) → before ++ (t ∷ after) ≡ before ++ after → ⊥
+one-among before t after e = omega (arith, simp length-append at (ap length e))
+
+-- by document 003's rules a goal whose values nothing makes equal leaves no thread, and another one the thread with its unifier applied
+rewrites-settle : {w : Weak} {rule : Rule} {r : Tree term} {new : List (Tree term)} (h : Rewrites w rule r new) → LeastNames h → (x y : Tree term) → r ≡ two unif x y →
+    ((new ≡ []) × ((τ : Substitution) → Solves τ x y → ⊥)) ⊎ ((σ : Substitution) × (Unifier x y σ × (new ≡ substitute σ (plug w ok) ∷ [])))
+rewrites-settle (alloc p l a) m x y e = impossible (cc)
+rewrites-settle (beta l p v a) m x y e = impossible (cc)
+rewrites-settle (fresh-variable t z a) m x y e = impossible (cc)
+rewrites-settle (guard-passed v t a) m x y e = impossible (cc)
+rewrites-settle (unified v u σ a b g) m x y e = let i : v ≡ x = cc in let j : u ≡ y = cc in inr (σ, (rw (← i, ← j) m, refl))
+rewrites-settle (failed v u a b f) m x y e = let i : v ≡ x = cc in let j : u ≡ y = cc in inl (refl, rw (← i, ← j) f)
+
+-- a thread is dropped by its goal exactly if no substitution makes the two values equal
+pub goal-settled : {ts : List (Tree term)} {s : Step} (c : Chosen ts s) (x y : Tree term) → c .reduces .redex ≡ two unif x y → Settled ts s c x y
+goal-settled {s = s} c x y e = go (rewrites-settle (c .reduces .rewrites) (c .names) x y e)
+  where
+    go : ((c .reduces .new ≡ []) × ((τ : Substitution) → Solves τ x y → ⊥)) ⊎ ((σ : Substitution) × (Unifier x y σ × (c .reduces .new ≡ substitute σ (plug (c .reduces .context) ok) ∷ []))) → Settled _ s c x y
+    go (inl (i, f)) = record { dropped = ((λ k. f), λ k. rw i at (c .reduces .to)); kept = λ k. absurd (k f) }
+    go (inr (σ, (u, i))) = let is = rw i at (c .reduces .to) in record { dropped = ((λ k. absurd (one-among (c .reduces .before) _ (c .reduces .after) (sym is ∙ k))), λ f. absurd (f σ (u .solves))); kept = λ k. (σ, (u, is)) }
 
 module _ {n : ℕ} {table : List ℕ} {count : ℕ} where
   -- what an accepted step has stepped
@@ -84,6 +129,7 @@ module _ {n : ℕ} {table : List ℕ} {count : ℕ} where
         good = good;
         step = s;
         chosen = step-chosen (threads p) (good .coherent) (k .steps);
+        goal = goal-settled (step-chosen (threads p) (good .coherent) (k .steps));
         fits = omega arith;
         values = refl;
         left = refl;
@@ -109,7 +155,7 @@ module _ {n : ℕ} {table : List ℕ} {count : ℕ} where
       go (inr (a, inr (b, inr (c, inr (d, inr (f, inr (i, h))))))) = absurd h
 
   -- a step of the table is a step of the program in it
-  table-step : {p q : Tree program} {s : Step} → TableOf n table count p → StepsTo n table count q s → step (threads p) ≡ some s
+  pub table-step : {p q : Tree program} {s : Step} → TableOf n table count p → StepsTo n table count q s → step (threads p) ≡ some s
   table-step t k = ap (λ (x : Tree program). step (threads x)) (table-of-unique t (k .table-of)) ∙ k .steps
 
   -- a good program in a table is stepped into an output with room for the result

@@ -1,3 +1,5 @@
 pub mod Exactly
 pub mod Worked
+pub mod Heads
 pub mod Calls
+pub mod Boundaries

@@ -1,15 +1,18 @@
--- Demand 2: what an accepted read, step, run and standing call have worked, for the node limit n. v is what the call returned; o, t and w are what it left in
+-- Demand 2: what an accepted read, write, step, run and standing call have worked, for the node limit n. v is what the call returned; o, t and w are what it left in
 -- the output, the table and the work table.
 use mathlib.Core.Path.{_≡_}
 use mathlib.Core.Logic.{_↔_}
 use mathlib.Core.Bool.{true}
 use mathlib.Core.List.{List, [], _∷_, _++_}
 use Prim.Native.Nat.{ℕ, _≤_}
-use lib.ListN.{length, replicate}
+use lib.ListN.{length, take, replicate}
 use Rattle.calculus.specs.declared.Standing.{Standing}
-use Rattle.calculus.specs.Tree.{term, program, Tree, preorder, nodes, threads, program-of}
+use Rattle.calculus.specs.Tree.{term, program, unif, Tree, two, ok, preorder, nodes, threads, program-of}
+use Rattle.calculus.specs.Put.{substitute}
 use Rattle.calculus.specs.Value.{value}
 use Rattle.calculus.specs.Good.{Good}
+use Rattle.calculus.specs.Redex.{plug}
+use Rattle.calculus.specs.Unifier.{Substitution, Solves, Unifier}
 use Rattle.calculus.specs.Reduction.{Reductions}
 use Rattle.calculus.specs.Normal.{Stuck}
 use Rattle.calculus.specs.Step.{Step}
@@ -17,7 +20,21 @@ use Rattle.calculus.specs.Choice.{Rewritable, Chosen, Choices}
 use Rattle.calculus.specs.Run.{End, IsRun, size, next-program, holds-nodes, room-of}
 use Rattle.calculus.specs.Text.{text}
 use Rattle.calculus.specs.Answers.{standingCode, Values}
-use Rattle.calculus.specs.Calls.{front, TableOf, end-table, ran-values, ThreadOf}
+use Rattle.calculus.specs.Calls.{front, Reads, TableOf, end-table, ran-values, ThreadOf}
+
+-- A read has to accept exactly the text of a good program that the output holds.
+pub record Readable (n : ℕ) (b out : List ℕ) : Type 0 where
+  pub program : Tree program
+  pub good : Good n program
+  pub is : text program ≡ b
+  pub held : nodes program ≤ holds-nodes out
+
+-- A write has to accept exactly a table in which a good program stands whose text the output holds.
+pub record Writable (n : ℕ) (table : List ℕ) (count : ℕ) (out : List ℕ) : Type 0 where
+  pub program : Tree program
+  pub table-of : TableOf n table count program
+  pub good : Good n program
+  pub held : length (text program) ≤ length out
 
 -- An accepted read: the text is that of a good program that fits the output, and the output begins with exactly that program.
 pub record HasRead (n : ℕ) (b out : List ℕ) (v : Values) (o : List ℕ) : Type 0 where
@@ -29,6 +46,24 @@ pub record HasRead (n : ℕ) (b out : List ℕ) (v : Values) (o : List ℕ) : Ty
   pub left : o ≡ front (preorder program) out
   pub back : TableOf n o (nodes program) program
 
+-- An accepted write: a good program stands in the table, and the output begins with exactly its text, which is read again as that program.
+pub record HasWritten (n : ℕ) (table : List ℕ) (count : ℕ) (out : List ℕ) (v : Values) (o : List ℕ) : Type 0 where
+  pub program : Tree program
+  pub table-of : TableOf n table count program
+  pub good : Good n program
+  pub fits : length (text program) ≤ length out
+  pub values : v .values ≡ length (text program) ∷ []
+  pub left : o ≡ front (text program) out
+  pub back : n ≤ 65536 → {other : List ℕ} {x : Values} {r : List ℕ} → nodes program ≤ holds-nodes other → Reads n (take (length (text program)) o) other x r →
+      (x ≡ record { refusal = 0; values = nodes program ∷ [] }) × (r ≡ front (preorder program) other)
+
+-- A goal `u v w` is worked: its thread is dropped exactly if no substitution makes v and w equal, and otherwise one thread stands in its place, with `ok` for the
+-- goal and the most general unifier applied.
+pub record Settled (ts : List (Tree term)) (s : Step) (c : Chosen ts s) (v w : Tree term) : Type 0 where
+  pub dropped : (s .result ≡ c .reduces .before ++ c .reduces .after) ↔ ((τ : Substitution) → Solves τ v w → ⊥)
+  pub kept : (((τ : Substitution) → Solves τ v w → ⊥) → ⊥) →
+      (σ : Substitution) × (Unifier v w σ × (s .result ≡ c .reduces .before ++ (substitute σ (plug (c .reduces .context) ok) ∷ c .reduces .after)))
+
 -- An accepted step: the table holds a good program, and the output begins with exactly what document 01's rewriting of it gives, a good program again.
 pub record HasStepped (n : ℕ) (table : List ℕ) (count : ℕ) (out : List ℕ) (v : Values) (o : List ℕ) : Type 0 where
   pub program : Tree program
@@ -36,6 +71,7 @@ pub record HasStepped (n : ℕ) (table : List ℕ) (count : ℕ) (out : List ℕ
   pub good : Good n program
   pub step : Step
   pub chosen : Chosen (threads program) step
+  pub goal : (x y : Tree term) → chosen .reduces .redex ≡ two unif x y → Settled (threads program) step chosen x y
   pub fits : size (step .result) ≤ holds-nodes out
   pub values : v .values ≡ size (step .result) ∷ []
   pub left : o ≡ front (preorder (program-of (step .result))) out
