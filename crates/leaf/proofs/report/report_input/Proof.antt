@@ -1,13 +1,14 @@
 -- `leaf::report::report_input` meets its contract: the report of what the buffer holds is that of the whole input, for the buffer is longer than the text limit.
 use mathlib.Core.Path.{sym}
 use borrow.Author.Needs.{needs}
+use native.Mathlib.Omega.{arith}
 use lib.Seq.{length-take-le}
 use Rattle.leaf.proofs.Once.{whole-reported}
 use Rattle.leaf.proofs.report.report_input.Statement.{statement}
 use Rattle.leaf.proofs.report.report_input.Tie as tie
 
 slice-aggregate-report : tie.Need-slice-aggregate-report
-slice-aggregate-report c = let d = c .before .before .before in sym (length-take-le (d .args .n) (d .args .buffer .now) (d .pre .1 .0))
+slice-aggregate-report c = sym (length-take-le _ _ (omega arith))
 
 report-requires : tie.Need-report-requires
 report-requires c κs = search needs
