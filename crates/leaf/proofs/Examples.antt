@@ -1,4 +1,4 @@
--- Document 01's two examples of the program, and one for each other reason, with their inputs: what is reported of these bytes. That nothing else can be is `reports-once`.
+-- What is reported of these inputs, one for each reason and a refused one, document 01's two examples among them. That nothing else can be is `reports-once`.
 use mathlib.Core.Path.{_≡_, refl, sym, ap, _∙_}
 use mathlib.Core.Logic.{inl, inr}
 use mathlib.Core.List.{List, [], _∷_, _++_}
@@ -41,30 +41,6 @@ run-reports : (ts : List (Tree term)) {e : End (List (Tree term))} {w : List ℕ
 run-reports ts {e} {w} g r h =
     let q : report (run limit most (threads (program-of ts))) ≡ w = ap (λ (l : List (Tree term)). report (run limit most l)) (threads-of-program ts) ∙ ap report r ∙ h in
     rw q at (good-reports {k = most} (omega arith) g)
-
--- `((n (g (u b0 c1) b0)))`
-abbrev example : List (Tree term)
-example = fresh (two guard (two unif (bound 0) (con 1)) (bound 0)) ∷ []
-
-example-good : Good limit (program-of example)
-unfolding nodes program-of closures
-example-good = one-good example (omega arith) (omega arith) (omega arith) (tt, tt)
-
-example-text : text (program-of example) ≡ ascii "((1:n(1:g(1:u(1:v1:0)(1:c1:1))(1:v1:0))))"
-unfolding ascii program-of digits decimal bytes encode raw raw-text text
-example-text = refl
-
--- "Input `((1:n(1:g(1:u(1:v1:0)(1:c1:1))(1:v1:0))))` (41 bytes) gives `(5:ended1:3((1:c1:1)))`"
-pub example-reports : Reports limit most (ascii "((1:n(1:g(1:u(1:v1:0)(1:c1:1))(1:v1:0))))") (ascii "(5:ended1:3((1:c1:1)))")
-example-reports = rw (← example-text) (run-reports example example-good refl report-example)
-
--- no expression has no bytes
-not-empty : (s : Sexp one) → bytes s ≡ [] → ⊥
-not-empty s e = first-byte s 41 (41 ∷ []) [] (omega arith) (omega arith) (rw e)
-
--- "empty input gives `(7:refused1:3)`"
-pub empty-reports : Reports limit most [] (ascii "(7:refused1:3)")
-empty-reports = rw (← refusal-example) (refused NotCanonical (inr ((λ h. omega arith), inl (not-empty, refl))))
 
 -- By steps: `(L 0 ((a b0 b0)))` applied to itself, which its step returns.
 
@@ -177,3 +153,29 @@ full-run =
 -- a result of as many nodes as there is room for is taken
 pub full-reports : Reports limit most (text (program-of full)) (ascii "(5:ended1:2" ++ (text (program-of full-end) ++ ascii ")"))
 full-reports = run-reports full full-good full-run (two-steps-report full-end)
+
+-- Document 01's two examples.
+
+-- `((n (g (u b0 c1) b0)))`
+abbrev example : List (Tree term)
+example = fresh (two guard (two unif (bound 0) (con 1)) (bound 0)) ∷ []
+
+example-good : Good limit (program-of example)
+unfolding nodes program-of closures
+example-good = one-good example (omega arith) (omega arith) (omega arith) (tt, tt)
+
+example-text : text (program-of example) ≡ ascii "((1:n(1:g(1:u(1:v1:0)(1:c1:1))(1:v1:0))))"
+unfolding ascii program-of digits decimal bytes encode raw raw-text text
+example-text = refl
+
+-- "Input `((1:n(1:g(1:u(1:v1:0)(1:c1:1))(1:v1:0))))` (41 bytes) gives `(5:ended1:3((1:c1:1)))`"
+pub example-reports : Reports limit most (ascii "((1:n(1:g(1:u(1:v1:0)(1:c1:1))(1:v1:0))))") (ascii "(5:ended1:3((1:c1:1)))")
+example-reports = rw (← example-text) (run-reports example example-good refl report-example)
+
+-- no expression has no bytes
+not-empty : (s : Sexp one) → bytes s ≡ [] → ⊥
+not-empty s e = first-byte s 41 (41 ∷ []) [] (omega arith) (omega arith) (rw e)
+
+-- "empty input gives `(7:refused1:3)`"
+pub empty-reports : Reports limit most [] (ascii "(7:refused1:3)")
+empty-reports = rw (← refusal-example) (refused NotCanonical (inr ((λ h. omega arith), inl (not-empty, refl))))
