@@ -1,8 +1,10 @@
--- What a call returns tells its answer: no two answers of an enum have one number, code or values.
+-- What a call returns tells its answer: no two answers of an enum have one number, code, atom or values.
 use mathlib.Core.Path.{_≡_, refl, sym, ap, _∙_}
-use mathlib.Core.List.{[], _∷_}
+use mathlib.Core.Bool.{cond}
+use mathlib.Core.List.{List, [], _∷_}
 use Prim.Native.Nat.{ℕ, _≤_, _<_}
 use native.Mathlib.Omega.{arith}
+use lib.Dec.{eqb}
 use lib.ListN.{getD}
 use Rattle.calculus.specs.declared.Refusal.{Refusal}
 use Rattle.calculus.specs.declared.Refusal.the-variants.{NoProgram, TooLong, NotCanonical, OutOfPlace, BadNumber, NoBinder, TooManyNodes, Incoherent, NoRoom, NoThread, Finished}
@@ -18,7 +20,7 @@ use Rattle.calculus.specs.declared.Ran.{Ran}
 use Rattle.calculus.specs.declared.Ran.the-variants as ran
 use Rattle.calculus.specs.declared.Stood.{Stood}
 use Rattle.calculus.specs.declared.Stood.the-variants as stood
-use Rattle.calculus.specs.Answers.{number, reasonCode, standingCode, Values, countedValues, steppedValues, ranValues, stoodValues}
+use Rattle.calculus.specs.Answers.{number, reasonBytes, reasonCode, standingCode, Values, countedValues, steppedValues, ranValues, stoodValues}
 
 -- the refusal numbers are 1 to 11
 number-range : (r : Refusal) → (0 < number r) × (number r ≤ 11)
@@ -43,7 +45,7 @@ pub number-small : (r : Refusal) → number r ≤ 11
 number-small r = number-range r .1
 
 -- what can be told back is told apart
-told-apart : {A : Type 0} (tell : A → ℕ) (back : ℕ → A) → ((x : A) → back (tell x) ≡ x) → (x y : A) → tell x ≡ tell y → x ≡ y
+told-apart : {A B : Type 0} (tell : A → B) (back : B → A) → ((x : A) → back (tell x) ≡ x) → (x y : A) → tell x ≡ tell y → x ≡ y
 told-apart tell back h x y e = sym (h x) ∙ ap back e ∙ h y
 
 -- the refusal of a number
@@ -79,6 +81,19 @@ reason-of-code Room = refl
 -- a code is that of one reason
 pub reason-injective : (r q : Reason) → reasonCode r ≡ reasonCode q → r ≡ q
 reason-injective = told-apart reasonCode reason-of reason-of-code
+
+-- the reason of an atom, by its first byte: e, s, and r for `room`
+abbrev reason-of-bytes : List ℕ → Reason
+reason-of-bytes b = let k = getD b 0 0 in cond (eqb k 101) Ended (cond (eqb k 115) Steps Room)
+
+reason-of-atom : (r : Reason) → reason-of-bytes (reasonBytes r) ≡ r
+reason-of-atom Ended = refl
+reason-of-atom Steps = refl
+reason-of-atom Room = refl
+
+-- an atom is that of one reason
+pub reason-bytes-injective : (r q : Reason) → reasonBytes r ≡ reasonBytes q → r ≡ q
+reason-bytes-injective = told-apart reasonBytes reason-of-bytes reason-of-atom
 
 -- the standing of a code
 abbrev standing-of : ℕ → Standing

@@ -53,7 +53,7 @@ unfolding substitute single structure value plug own redexes rewriting first ste
 step-moves s h e = let z : _≡_ {A = ℕ} 0 1 = cc in omega arith
 
 -- `(L 0 ((a b0 b0)))` applied to itself
-abbrev self-application : Tree term
+abbrev pub self-application : Tree term
 self-application = let w : Tree term = abs (at 0) (only (two app (bound 0) (bound 0))) in two app w w
 
 -- but a step may return its input: do not ask that none does

@@ -7,6 +7,7 @@ pub mod Preorders
 pub mod Decimals
 pub mod Bytes
 pub mod Texts
+pub mod Reports
 pub mod Substitutes
 pub mod Bindings
 pub mod Unifiers

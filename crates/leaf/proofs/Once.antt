@@ -19,7 +19,7 @@ use Rattle.calculus.proofs.Bindings.{In}
 use Rattle.calculus.proofs.Refusals.{given-listed, accepted-not-refused, one-refusal}
 use Rattle.calculus.proofs.Outcomes.{text-of-unique}
 use Rattle.promises.proofs.Refused.{read-has-room}
-use Rattle.leaf.specs.Reported.{Reported}
+use Rattle.leaf.specs.Reported.{Reported, ReportedWhole}
 
 module _ {n k : ℕ} {b : List ℕ} where
   -- two reports of one text are equal
@@ -41,16 +41,23 @@ module _ {n k : ℕ} {b : List ℕ} where
   too-long h (refused r (inl g)) = ap refusal-report (g .1)
   too-long h (refused r (inr g)) = absurd (g .0 h)
 
--- what is reported of an input up to one byte past the limit is the report of the whole input
-pub cut-reported : {n k : ℕ} (b : List ℕ) {w : List ℕ} → Reports n k (take (12 * n + 1) b) w → Reports n k b w
-cut-reported {n} b h =
-    let m : ℕ = 12 * n + 1 in
+-- what is reported of an input up to a place past the limit is the report of the whole input
+pub cut-reported : {n k m : ℕ} (b : List ℕ) {w : List ℕ} → 12 * n < m → Reports n k (take m b) w → Reports n k b w
+cut-reported {m = m} b l h =
     let size = length-take m b in
     let within : length (take m b) ≤ m = omega arith in
     ⊎-elim
     (λ (e : length (take m b) ≡ m). rw (too-long (omega arith) h) (refused TooLong (inl (omega arith, refl))))
     (λ (l : length (take m b) < m). rw (take-all m b (omega arith)) at h)
     (eq-or-lt-of-le within)
+
+-- and so is the report of what a buffer longer than the limit holds of it
+pub whole-reported : {n k : ℕ} {buffer : List ℕ} {m : ℕ} {out : List ℕ} {count : ℕ} {after : List ℕ} → 12 * n < length buffer → Reported n k (take m buffer) out count after → ReportedWhole n k buffer m out count after
+whole-reported l r = record { each = λ b h. record { written = r .written; reports = cut-reported b l (rw h (r .reports)); counts = r .counts; is = r .is } }
+
+-- that of what the buffer holds is one of them
+pub held-reported : {n k : ℕ} {buffer : List ℕ} {m : ℕ} {out : List ℕ} {count : ℕ} {after : List ℕ} → ReportedWhole n k buffer m out count after → m ≤ length buffer → Reported n k (take m buffer) out count after
+held-reported {buffer = buffer} {m} r l = r .each (take m buffer) (take-all (length buffer) (take m buffer) (omega (arith, length-take m buffer)))
 
 -- what is in a list, and is not its last, is before it
 before-last : (l : List ℕ) {x y : ℕ} → (y ≡ x → ⊥) → In x (l ++ (y ∷ [])) → In x l

@@ -12,6 +12,7 @@ use Rattle.calculus.specs.Run.{End}
 use Rattle.calculus.specs.Sexp.{decimal, digits, bytes}
 use Rattle.calculus.specs.Text.{text, raw-text}
 use Rattle.calculus.specs.Answers.{number}
+use Rattle.calculus.specs.Known.{ascii}
 use Rattle.calculus.specs.Report.{report, refusal-report, refusedBytes}
 use Rattle.calculus.proofs.Decimals.{decimal-length}
 use Rattle.text.specs.Writer.{numeral}
@@ -45,3 +46,13 @@ three a b c = simp (append-assoc, append-nil)
 pub report-is : (e : End (List (Tree term))) → report e ≡ startBytes (e .reason) (e .taken) ++ (text (program-of (e .last)) ++ (41 ∷ []))
 unfolding report bytes numeral text raw-text reasonAtom
 report-is e = three (reasonAtom (e .reason)) (numeral (e .taken)) (text (program-of (e .last)))
+
+-- a run that stopped for want of room before its first step
+pub room-report : (ts : List (Tree term)) → report (record { reason = Room; taken = 0; last = ts }) ≡ ascii "(4:room1:0" ++ (text (program-of ts) ++ ascii ")")
+unfolding ascii reasonAtom numeral bytes decimal digits
+room-report ts = report-is (record { reason = Room; taken = 0; last = ts })
+
+-- a run that ended after two steps
+pub two-steps-report : (ts : List (Tree term)) → report (record { reason = Ended; taken = 2; last = ts }) ≡ ascii "(5:ended1:2" ++ (text (program-of ts) ++ ascii ")")
+unfolding ascii reasonAtom numeral bytes decimal digits
+two-steps-report ts = report-is (record { reason = Ended; taken = 2; last = ts })

@@ -2,7 +2,7 @@
 use mathlib.Core.Path.{_≡_}
 use mathlib.Core.List.{List}
 use Prim.Native.Nat.{ℕ, _+_, _*_}
-use lib.ListN.{length}
+use lib.ListN.{length, take}
 use Rattle.calculus.specs.Calls.{front}
 use Rattle.calculus.specs.Report.{Reports}
 use Rattle.mespindro.specs.Limit.{limit}
@@ -21,3 +21,7 @@ pub record Reported (n k : ℕ) (b out : List ℕ) (count : ℕ) (after : List �
   pub reports : Reports n k b written
   pub counts : length written ≡ count
   pub is : after ≡ front written out
+
+-- The first m bytes of the buffer are as much of an input as it holds: an input goes on only where the buffer is full. The report is that of every such input.
+pub record ReportedWhole (n k : ℕ) (buffer : List ℕ) (m : ℕ) (out : List ℕ) (count : ℕ) (after : List ℕ) : Type 0 where
+  pub each : (b : List ℕ) → take (length buffer) b ≡ take m buffer → Reported n k b out count after

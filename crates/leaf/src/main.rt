@@ -1,4 +1,4 @@
-// The program on standard input: moves bytes. What it writes for an input is `report`.
+// The program on standard input: reads and writes. What it writes for an input is `report_input`.
 mod report;
 
 use libc::STDIN_FILENO;
@@ -12,10 +12,10 @@ const INPUT: usize = TEXT + 1;
 const REPORT: usize = TEXT + 16;
 
 fn main() {
-    // the report of what is read is that of the whole input (`cut-reported` of proofs/Once.antt); a read that fails is the end
+    // a read that fails is the end
     let mut input = [0u8; INPUT];
     let n = io::read_full(STDIN_FILENO, &mut input);
     let mut out = [0u8; REPORT];
-    let m = report::report(&input[..n], &mut out);
+    let m = report::report_input(&input, n, &mut out);
     io::write_all(STDOUT_FILENO, &out[..m]);
 }

@@ -1,10 +1,10 @@
 // What the program writes for an input: one function of its bytes.
-ghost use Prim.Native.Nat.{_≤_};
+ghost use Prim.Native.Nat.{_*_, _≤_, _<_};
 ghost use lib.ListN.{length};
 ghost use Rattle.calculus.specs.Report.{refusal-report};
 ghost use Rattle.text.specs.Writer.{Room, Wrote};
 ghost use Rattle.mespindro.specs.Limit.{limit};
-ghost use Rattle.leaf.specs.Reported.{longest, most, Reported};
+ghost use Rattle.leaf.specs.Reported.{longest, most, Reported, ReportedWhole};
 ghost use Rattle.leaf.specs.Written.{reasonAtom, startBytes, HoldsGood, Loaded, EndWritten, RunWritten};
 use calculus::Counted;
 use calculus::Ran;
@@ -91,7 +91,7 @@ fn put_run(count: usize, table: &mut [u16], out: &mut [u8]) -> usize
 }
 
 // The report of a text at the front of the output, and its length.
-pub fn report(text: &[u8], out: &mut [u8]) -> usize
+fn report(text: &[u8], out: &mut [u8]) -> usize
     requires { ⌜ longest ≤ length (now out) ⌝ }
     ensures { λ r. ⌜ Reported limit most (now (text .entry)) (now (out .entry)) r (now (out .exit)) ⌝ }
 {
@@ -100,4 +100,14 @@ pub fn report(text: &[u8], out: &mut [u8]) -> usize
         Counted::Count(n) => put_run(n, &mut table, out),
         Counted::Refused(r) => put_refusal(r, out),
     }
+}
+
+// The report of the whole input, of which the first `n` bytes of the buffer are as much as it holds.
+pub fn report_input(buffer: &[u8], n: usize, out: &mut [u8]) -> usize
+    requires { ⌜ 12 * limit < length (now buffer) ⌝ }
+    requires { ⌜ n ≤ length (now buffer) ⌝ }
+    requires { ⌜ longest ≤ length (now out) ⌝ }
+    ensures { λ r. ⌜ ReportedWhole limit most (now (buffer .entry)) n (now (out .entry)) r (now (out .exit)) ⌝ }
+{
+    report(&buffer[..n], out)
 }
