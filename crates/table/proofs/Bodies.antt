@@ -8,7 +8,7 @@ use native.Mathlib.Decide.{ℕ-discrete}
 use lib.ListN.{length, getD, take, drop, set, length-drop, length-set}
 use lib.Seq.{take-all, getD-set-same, getD-set-other}
 use Rattle.calculus.specs.Tree.{Sort, term, program, Tree, preorder}
-use Rattle.calculus.proofs.Preorders.{preorder-length}
+use Rattle.calculus.proofs.Preorders.{preorder-length, preorder-injective}
 use Rattle.table.specs.Nodes.{kindAt, numberAt, NodeIs, Stands, SomeTree, SameBodies}
 use Rattle.table.specs.Checks.{IsThread, BodiesAgree}
 use Rattle.table.proofs.Allocated.{Met, Held, met-held, held-met, met-here, met-in-range}
@@ -85,7 +85,7 @@ module _ {part : List ℕ} {i l : ℕ} where
   entry-again : {v : ℕ} {r : Bool} → (v ≡ 0 → ⊥) → SameBodies (from part v) (from part (i + 1)) r → r ≡ true → Entry part i l v → Entry part (i + 1) l v
   entry-again z s e (new a) = absurd (z refl)
   entry-again z s e (old f t) =
-      old (more f) (λ m p q v w. elim (ℕ-discrete (m .node) i) [ yes d ↦ s .same e p q (from-stands v) (from-stands (moved (omega arith) w)) | no d ↦ t (fewer m d) p q v w ])
+      old (more f) (λ m p q v w. elim (ℕ-discrete (m .node) i) [ yes d ↦ preorder-injective p q (s .same e p q (from-stands v) (from-stands (moved (omega arith) w))) | no d ↦ t (fewer m d) p q v w ])
 
   module _ {x : Tree term} (h : (m : Met part i l) → Held part (m .node + 1) l x) where
     -- what has one location has one body
@@ -140,39 +140,41 @@ module _ {n : ℕ} {part : List ℕ} {end i m : ℕ} {first₀ first : List ℕ}
   abbrev this : (j : ℕ) → i < j → Met part j m
   this j h = record { node = i; below = h; kind-is = a .kind-is; number-is = a .number-is }
 
-  this-entry : Entry part i m (getD first m 0)
-  this-entry = a .firsts .entry m (this end (a .below))
-
   others : (l : ℕ) → (l ≡ m → ⊥) → Met part end l → Entry part (i + 1) l (getD first l 0)
   others l h k = entry-pass (other-number (λ e. h (sym e ∙ a .number-is))) (a .firsts .entry l k)
 
   this-body : (x : Tree term) → part ≡ preorder x → Held part (i + 1) m x
   this-body x e = met-held part x e (i + 1) m (omega arith) (this (i + 1) (omega arith))
 
-  pub first-before : getD first m 0 ≤ i
-  first-before = entry-before this-entry
+  -- what is kept for its location
+  module _ {v : ℕ} (kept : v ≡ getD first m 0) where
+    this-entry : Entry part i m v
+    this-entry = rw kept (a .firsts .entry m (this end (a .below)))
 
-  pub firsts-first : getD first m 0 ≡ 0 → Firsts part end (i + 1) first₀ (set first m (i + 1))
-  firsts-first z = record {
-    same-size = simp length-set (a .firsts .same-size);
-    entry = λ l k. elim (ℕ-discrete l m) [ yes e ↦ rw (e, getD-set-same first m (i + 1) 0 (a .room)) (entry-first (this (i + 1) (omega arith)) refl z this-entry) | no e ↦ rw (getD-set-other first m l (i + 1) 0 e) (others l e k) ];
-  }
+    pub first-before : v ≤ i
+    first-before = entry-before this-entry
 
-  module _ (z : getD first m 0 ≡ 0 → ⊥) where
-    pub firsts-again : {r : Bool} → SameBodies (from part (getD first m 0)) (from part (i + 1)) r → r ≡ true → Firsts part end (i + 1) first₀ first
-    firsts-again s t = record { same-size = a .firsts .same-size; entry = λ l k. elim (ℕ-discrete l m) [ yes e ↦ rw e (entry-again z s t this-entry) | no e ↦ others l e k ] }
-
-    first-body : (x : Tree term) → part ≡ preorder x → Held part (getD first m 0) m x
-    first-body x is = entry-body (met-held part x is i m (omega arith)) z this-entry
-
-    pub bodies-stand : SomeTree (from part (getD first m 0)) 0 × SomeTree (from part (i + 1)) 0
-    bodies-stand = let x = a .thread .thread in let e = a .thread .is in (some-body (first-body x e), some-body (this-body x e))
-
-    pub firsts-differ : {r : Bool} → SameBodies (from part (getD first m 0)) (from part (i + 1)) r → r ≡ false → BodiesAgree part false
-    firsts-differ s t = record {
-      agree = λ e. absurd (true≢false (sym e));
-      differ = λ _ x e one.
-          let f = first-body x e in
-          let g = this-body x e in
-          s .apart t (f .body) (g .body) (from-stands (f .stands)) (from-stands (g .stands)) (one m _ _ (f .holds) (g .holds));
+    pub firsts-first : v ≡ 0 → Firsts part end (i + 1) first₀ (set first m (i + 1))
+    firsts-first z = record {
+      same-size = simp length-set (a .firsts .same-size);
+      entry = λ l k. elim (ℕ-discrete l m) [ yes e ↦ rw (e, getD-set-same first m (i + 1) 0 (a .room)) (entry-first (this (i + 1) (omega arith)) refl z this-entry) | no e ↦ rw (getD-set-other first m l (i + 1) 0 e) (others l e k) ];
     }
+
+    module _ (z : v ≡ 0 → ⊥) where
+      pub firsts-again : {r : Bool} → SameBodies (from part v) (from part (i + 1)) r → r ≡ true → Firsts part end (i + 1) first₀ first
+      firsts-again s t = record { same-size = a .firsts .same-size; entry = λ l k. elim (ℕ-discrete l m) [ yes e ↦ rw (e, ← kept) (entry-again z s t this-entry) | no e ↦ others l e k ] }
+
+      first-body : (x : Tree term) → part ≡ preorder x → Held part v m x
+      first-body x is = entry-body (met-held part x is i m (omega arith)) z this-entry
+
+      pub bodies-stand : SomeTree (from part v) 0 × SomeTree (from part (i + 1)) 0
+      bodies-stand = let x = a .thread .thread in let e = a .thread .is in (some-body (first-body x e), some-body (this-body x e))
+
+      pub firsts-differ : {r : Bool} → SameBodies (from part v) (from part (i + 1)) r → r ≡ false → BodiesAgree part false
+      firsts-differ s t = record {
+        agree = λ e. absurd (true≢false (sym e));
+        differ = λ _ x e one.
+            let f = first-body x e in
+            let g = this-body x e in
+            s .apart t (f .body) (g .body) (from-stands (f .stands)) (from-stands (g .stands)) (ap preorder (one m _ _ (f .holds) (g .holds)));
+      }

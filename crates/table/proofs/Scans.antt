@@ -14,7 +14,7 @@ use Rattle.calculus.specs.Good.{InRange, HeadInRange, constructors}
 use Rattle.calculus.specs.Calls.{TableOf}
 use Rattle.calculus.proofs.Preorders.{preorder-length}
 use Rattle.calculus.proofs.Substitutes.{impossible}
-use Rattle.table.specs.Checks.{Walks, nothing, loose, scoped, ScopedIn, inside}
+use Rattle.table.specs.Checks.{walkedNumber, Walks, nothing, loose, scoped, ScopedIn, inside}
 use Rattle.table.specs.Nodes.{kindAt, numberAt, NodeIs, parts}
 use Rattle.table.specs.Pending.{Want, want, sort-where, kept, tests, may, last-part, wants, PartsPut}
 use Rattle.table.specs.declared.Walked.{Walked}
@@ -204,7 +204,7 @@ module _ (n : ℕ) (w : Bool) where
     unfolding scan
     whole-at p h = rw (h .is, ← append-nil (preorder p)) (passes p (h .ranges) 0 [] [] true)
 
-    judged : (p : Tree program) → TableOf n t count p → (b : Bool) → still w 0 p true ≡ b → Walks n w t count (cond b Scoped Loose)
+    judged : (p : Tree program) → TableOf n t count p → (b : Bool) → still w 0 p true ≡ b → Walks n w t count (walkedNumber w (cond b Scoped Loose))
     judged p h true e = scoped p h (still-true p 0 true e .1)
     judged p h false e = loose p h (λ s. true≢false (sym (scoped-still p 0 s) ∙ e))
 
@@ -212,16 +212,16 @@ module _ (n : ℕ) (w : Bool) where
       table-of : (p : Tree program) → take (2 * count) t ≡ preorder p → InRange n p → TableOf n t count p
       table-of p e h = record { counts = omega (arith, preorder-length p, ap length e, length-take (2 * count) t); small = small; within = fits; is = e; ranges = h }
 
-      accepted : {l : List ℕ} → take (2 * count) t ≡ l → Forest (want program 0 ∷ []) l → Walks n w t count (whole t count)
+      accepted : {l : List ℕ} → take (2 * count) t ≡ l → Forest (want program 0 ∷ []) l → Walks n w t count (walkedNumber w (whole t count))
       accepted e (more p h none) =
           let o : TableOf n t count p = table-of p (e ∙ append-nil (preorder p)) h in
           rw (whole-at p o) (judged p o (still w 0 p true) refl)
 
       -- what the walk finds is what stands there
-      pub whole-walks : Walks n w t count (whole t count)
+      pub whole-walks : Walks n w t count (walkedNumber w (whole t count))
       whole-walks = go (whole t count) refl
         where
-          go : (r : Walked) → whole t count ≡ r → Walks n w t count (whole t count)
+          go : (r : Walked) → whole t count ≡ r → Walks n w t count (walkedNumber w (whole t count))
           go NoProgram e = rw e (nothing (λ p h. never (still w 0 p true) (sym e ∙ whole-at p h)))
           go Loose e = accepted refl (sound _ _ true (λ f. impossible (cc)))
           go Scoped e = accepted refl (sound _ _ true (λ f. impossible (cc)))
@@ -401,16 +401,16 @@ module _ {t : List ℕ} {count limit : ℕ} {within : Bool} {end : ℕ} {pending
   reads e f = rw (← e, ← f) (v .rest)
 
   module _ (small : count ≤ limit) (fits : 2 * count ≤ length t) where
-    found : {r : Walked} → r ≡ whole limit within t count → Walks limit within t count r
+    found : {r : Walked} → r ≡ whole limit within t count → Walks limit within t count (walkedNumber within r)
     found e = rw e (whole-walks limit within t count small fits)
 
     -- all nodes are read and a tree is still pending
-    pub ends-open : count ≤ at → (top ≡ end → ⊥) → Walks limit within t count NoProgram
+    pub ends-open : count ≤ at → (top ≡ end → ⊥) → Walks limit within t count (walkedNumber within NoProgram)
     unfolding scan
     ends-open h g = found (reads (pending-top (omega arith)) (nothing-left h))
 
     -- all nodes are read and none is
-    pub ends-closed : count ≤ at → top ≡ end → Walks limit within t count (cond bound Scoped Loose)
+    pub ends-closed : count ≤ at → top ≡ end → Walks limit within t count (walkedNumber within (cond bound Scoped Loose))
     unfolding scan
     ends-closed h g = found (reads (none-pending g) (nothing-left h))
 
@@ -421,7 +421,7 @@ module _ {t : List ℕ} {count limit : ℕ} {within : Bool} {end : ℕ} {pending
           rw (here-node (take (2 * count) t) at (omega arith), getD-take (2 * count) t (2 * at) 0 (omega arith), getD-take (2 * count) t (2 * at + 1) 0 (omega arith))
 
       -- a node is left and nothing is pending
-      pub ends-early : top ≡ end → Walks limit within t count NoProgram
+      pub ends-early : top ≡ end → Walks limit within t count (walkedNumber within NoProgram)
       unfolding scan
       ends-early g = found (reads (none-pending g) next-node)
 
@@ -430,7 +430,7 @@ module _ {t : List ℕ} {count limit : ℕ} {within : Bool} {end : ℕ} {pending
         there = rw (o .kind-is, o .number-is) next-node
 
         -- the node may not stand there
-        pub ends-at : false ≡ may limit (sort-where (eqb (getD pending top 0 % 2) 1)) k m → Walks limit within t count NoProgram
+        pub ends-at : false ≡ may limit (sort-where (eqb (getD pending top 0 % 2) 1)) k m → Walks limit within t count (walkedNumber within NoProgram)
         unfolding scan
         ends-at e = found (rw (← e) at (reads (pending-top g) there))
 
@@ -445,7 +445,7 @@ module _ {t : List ℕ} {count limit : ℕ} {within : Bool} {end : ℕ} {pending
             record { full = n; most = omega arith; low = omega arith; high = omega arith; depths = rw (q .pending) d; rest = rw (q .pending, f) (rw (← e) at (reads (pending-top g) there)) }
 
 -- too many nodes for the limit or for the table
-pub too-many : (n : ℕ) (w : Bool) (t : List ℕ) (count : ℕ) → (count ≤ n → 2 * count ≤ length t → ⊥) → Walks n w t count NoProgram
+pub too-many : (n : ℕ) (w : Bool) (t : List ℕ) (count : ℕ) → (count ≤ n → 2 * count ≤ length t → ⊥) → Walks n w t count (walkedNumber w NoProgram)
 too-many n w t count f = nothing (λ p h. f (h .small) (h .within))
 
 -- the flag as the code keeps it

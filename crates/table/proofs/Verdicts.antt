@@ -10,15 +10,14 @@ use Rattle.calculus.specs.declared.Refusal.{Refusal}
 use Rattle.calculus.specs.declared.Refusal.the-variants as refusal
 use Rattle.calculus.specs.Tree.{term, program, Tree, nodes, threads, program-of}
 use Rattle.calculus.specs.Good.{Closed, Coherent, All, Good}
-use Rattle.calculus.specs.Answers.{number}
+use Rattle.calculus.specs.Answers.{number, Values}
 use Rattle.calculus.specs.Calls.{Refusals, Accepts, Refuses, TableOf, nodes-before, table-refusals, ThreadOf, PartAt, part, no-part}
 use Rattle.calculus.proofs.Alls.{all-each, all-with}
 use Rattle.calculus.proofs.Outcomes.{table-of-unique}
 use Rattle.calculus.proofs.Preorders.{nodes-positive, threads-of-program}
-use Rattle.calculus.proofs.Substitutes.{impossible}
 use Rattle.table.specs.Nodes.{Stands}
-use Rattle.table.specs.Checks.{Walks, nothing, loose, scoped, OneBody, ProgramIn, ThreadsAgree, checkedNumber, Checks, admitted, refused}
-use Rattle.table.specs.Threads.{ProgramAt, PlaceOf, from, missing, SpanOf}
+use Rattle.table.specs.Checks.{walkedNumber, Walks, nothing, loose, scoped, OneBody, ProgramIn, ThreadsAgree, checkedNumber, Checks, admitted, refused}
+use Rattle.table.specs.Threads.{ProgramAt, placeValues, PlaceOf, from, missing, SpanOf}
 use Rattle.table.specs.declared.Walked.{Walked}
 use Rattle.table.specs.declared.Walked.the-variants.{NoProgram, Loose, Scoped}
 use Rattle.table.specs.declared.Checked.{Checked}
@@ -70,16 +69,22 @@ module _ {n : ℕ} {t : List ℕ} {count : ℕ} where
   none-fits e = refused refusal.NoProgram (inl ((λ p h. let c = h .counts in let s = h .small in omega (arith, nodes-positive p)), refl))
 
   -- a walk finds no program
-  pub none-walked : {w : Bool} {r : Walked} → r ≡ NoProgram → Walks n w t count r → Checks n t count 1
-  none-walked e (nothing f) = refused refusal.NoProgram (inl (f, refl))
-  none-walked e (loose p h f) = impossible (cc)
-  none-walked e (scoped p h f) = impossible (cc)
+  pub none-walked : {r : Walked} → r ≡ NoProgram → Walks n false t count (walkedNumber false r) → Checks n t count 1
+  none-walked e h = go h (ap (walkedNumber false) e)
+    where
+      go : {m : ℕ} → Walks n false t count m → m ≡ 1 → Checks n t count 1
+      go (nothing f) e = refused refusal.NoProgram (inl (f, refl))
+      go (loose p h f) e = absurd (omega arith)
+      go (scoped p h f) e = absurd (omega arith)
 
   -- the walk that counts every binder finds an index without one
-  pub loose-walked : {r : Walked} → r ≡ Loose → Walks n false t count r → Checks n t count 6
-  loose-walked e (nothing f) = impossible (cc)
-  loose-walked e (loose p h f) = refused refusal.NoBinder (inr ((λ g. g p h), inl ((p, (h, λ c. f (closed-scoped 0 p c))), refl)))
-  loose-walked e (scoped p h f) = impossible (cc)
+  pub loose-walked : {r : Walked} → r ≡ Loose → Walks n false t count (walkedNumber false r) → Checks n t count 6
+  loose-walked e h = go h (ap (walkedNumber false) e)
+    where
+      go : {m : ℕ} → Walks n false t count m → m ≡ 6 → Checks n t count 6
+      go (nothing f) e = absurd (omega arith)
+      go (loose p h f) e = refused refusal.NoBinder (inr ((λ g. g p h), inl ((p, (h, λ c. f (closed-scoped 0 p c))), refl)))
+      go (scoped p h f) e = absurd (omega arith)
 
 -- a closed program stands there
 pub record ClosedIn (n : ℕ) (t : List ℕ) (count : ℕ) : Type 0 where
@@ -89,10 +94,19 @@ pub record ClosedIn (n : ℕ) (t : List ℕ) (count : ℕ) : Type 0 where
 
 module _ {n : ℕ} {t : List ℕ} {count : ℕ} where
   -- it finds none
-  pub closed-walked : {r : Walked} → r ≡ Scoped → Walks n false t count r → ClosedIn n t count
-  closed-walked e (nothing f) = impossible (cc)
-  closed-walked e (loose p h f) = impossible (cc)
-  closed-walked e (scoped p h f) = record { program-there = p; table-of = h; closed = scoped-closed 0 p f }
+  pub closed-walked : {r : Walked} → r ≡ Scoped → Walks n false t count (walkedNumber false r) → ClosedIn n t count
+  closed-walked e h = go h (ap (walkedNumber false) e)
+    where
+      go : {m : ℕ} → Walks n false t count m → m ≡ 0 → ClosedIn n t count
+      go (nothing f) e = absurd (omega arith)
+      go (loose p h f) e = absurd (omega arith)
+      go (scoped p h f) e = record { program-there = p; table-of = h; closed = scoped-closed 0 p f }
+
+-- 0 is the number of one answer only
+scoped-only : (r : Walked) → walkedNumber true r ≡ 0 → r ≡ Scoped
+scoped-only NoProgram e = absurd (omega arith)
+scoped-only Loose e = absurd (omega arith)
+scoped-only Scoped e = refl
 
 module _ {n : ℕ} {t : List ℕ} {count : ℕ} (c : ClosedIn n t count) where
   abbrev this : Tree program
@@ -116,26 +130,29 @@ module _ {n : ℕ} {t : List ℕ} {count : ℕ} (c : ClosedIn n t count) where
   incoherent f = refused refusal.Incoherent (inr (there, inr (closed-all, inl ((this, (c .table-of, f)), refl))))
 
   -- the walk that counts only the binders inside an allocated abstraction finds an index without one
-  pub not-within : {r : Walked} → (r ≡ Scoped → ⊥) → Walks n true t count r → Checks n t count 8
-  not-within g (nothing f) = absurd (there f)
-  not-within g (loose p h f) =
-      incoherent (λ a. f (rw (table-of-unique h (c .table-of)) (threads-within this (c .closed) (all-each Coherent Within (threads this) (λ x k. k .within) a))))
-  not-within g (scoped p h f) = absurd (g refl)
+  pub not-within : {r : Walked} → (r ≡ Scoped → ⊥) → Walks n true t count (walkedNumber true r) → Checks n t count 8
+  not-within {r} g h = go h (λ e. g (scoped-only r e))
+    where
+      go : {m : ℕ} → Walks n true t count m → (m ≡ 0 → ⊥) → Checks n t count 8
+      go (nothing f) g = absurd (there f)
+      go (loose p h f) g =
+          incoherent (λ a. f (rw (table-of-unique h (c .table-of)) (threads-within this (c .closed) (all-each Coherent Within (threads this) (λ x k. k .within) a))))
+      go (scoped p h f) g = absurd (g refl)
 
   -- two allocated abstractions of a thread with one location differ
   pub not-equal : {b : Bool} → b ≡ false → ThreadsAgree t b → Checks n t count 8
   not-equal e a = incoherent (λ k. a .differ e this (table-stands (c .table-of)) (all-each Coherent OneBody (threads this) (λ x h. h .equal) k))
 
-  within-all : {r : Walked} → r ≡ Scoped → Walks n true t count r → All Within (threads this)
-  within-all e (nothing f) = impossible (cc)
-  within-all e (loose p h f) = impossible (cc)
+  within-all : {m : ℕ} → m ≡ 0 → Walks n true t count m → All Within (threads this)
+  within-all e (nothing f) = absurd (omega arith)
+  within-all e (loose p h f) = absurd (omega arith)
   within-all e (scoped p h f) = rw (table-of-unique (c .table-of) h) (within-threads p f)
 
   -- neither
-  pub all-coherent : {r : Walked} {b : Bool} → r ≡ Scoped → Walks n true t count r → b ≡ true → ThreadsAgree t b → Checks n t count 0
+  pub all-coherent : {r : Walked} {b : Bool} → r ≡ Scoped → Walks n true t count (walkedNumber true r) → b ≡ true → ThreadsAgree t b → Checks n t count 0
   all-coherent e w d a =
       let one = a .agree d this (table-stands (c .table-of)) in
-      let k : All Coherent (threads this) = all-with (λ x k o. record { within = k; equal = o }) (threads this) (within-all e w) one in
+      let k : All Coherent (threads this) = all-with (λ x k o. record { within = k; equal = o }) (threads this) (within-all (ap (walkedNumber true) e) w) one in
       let h = c .table-of in
       admitted this h (record { small = omega (arith, h .counts, h .small); ranges = h .ranges; closed = c .closed; coherent = k }) (there, (closed-all, (coherent-all k, tt)))
 
@@ -194,14 +211,17 @@ module _ {n : ℕ} {t : List ℕ} {count : ℕ} (a : AdmittedIn n t count) where
   this-one {p} h = rw (one-tree p (a .program-there) h (table-stands (a .table-of))) (a .table-of)
 
   -- there are not so many threads
-  pub part-missing : {k : ℕ} {r : Place} → r ≡ Missing → PlaceOf t k r → SpanOf n t count k 0 0
-  part-missing e (from before x after h l) = impossible (cc)
-  part-missing {k} e (missing p h l) =
-      record { holds = no-part refusal.NoThread (refuses-late (no-thread n t count k) (table-refusals n t count) refusal.NoThread (a .accepts) (inl ((p, (this-one h, l)), refl))); within = omega arith }
+  pub part-missing : {k : ℕ} {r : Place} → r ≡ Missing → PlaceOf t k (placeValues r) → SpanOf n t count k 0 0
+  part-missing {k} e w = go w (ap (λ p. placeValues p .refusal) e)
+    where
+      go : {v : Values} → PlaceOf t k v → v .refusal ≡ 10 → SpanOf n t count k 0 0
+      go (from before x after h l) e = absurd (omega arith)
+      go (missing p h l) e =
+          record { holds = no-part refusal.NoThread (refuses-late (no-thread n t count k) (table-refusals n t count) refusal.NoThread (a .accepts) (inl ((p, (this-one h, l)), refl))); within = omega arith }
 
-  -- a thread's own nodes
-  pub part-there : {k i e : ℕ} {r : Place} → r ≡ From i e → PlaceOf t k r → PartIn n t count k i e
-  part-there {k} {i} {e} q (from before x after h l) =
+  part-at : {k i e : ℕ} {v : Values} → PlaceOf t k v → v ≡ record { refusal = 0; values = i ∷ e ∷ [] } → PartIn n t count k i e
+  part-at {k} {i} {e} (from before x after h l) q =
+      let both = ap (λ (v : Values). v .values) q in
       let start : nodes-before before ≡ i = cc in
       let end : nodes-before before + nodes x ≡ e = cc in
       let w : Stands t i x = moved (omega arith) (behind-threads before after 0 h) in
@@ -218,7 +238,11 @@ module _ {n : ℕ} {t : List ℕ} {count : ℕ} (a : AdmittedIn n t count) where
           within = omega arith;
         };
       }
-  part-there q (missing p h l) = impossible (cc)
+  part-at (missing p h l) q = absurd (omega (arith, ap (λ (v : Values). v .refusal) q))
+
+  -- a thread's own nodes
+  pub part-there : {k i e : ℕ} {r : Place} → r ≡ From i e → PlaceOf t k (placeValues r) → PartIn n t count k i e
+  part-there {k} {i} {e} q w = part-at w (ap placeValues q)
 
 -- the part as it is lent, from its first number to before its last one's next
 pub span-part : {n : ℕ} {t : List ℕ} {count k start many : ℕ} → SpanOf n t count k start many → PartAt n t count k start (take (start + many - start) (drop start t))

@@ -8,6 +8,7 @@ use Rattle.calculus.specs.Good.{InRange, Holds, All, Good}
 use Rattle.calculus.specs.Calls.{Accepts, Refuses, TableOf, table-refusals}
 use Rattle.calculus.specs.Answers.{number}
 use Rattle.calculus.specs.declared.Refusal.{Refusal}
+use Rattle.calculus.specs.declared.Refusal.the-variants as refusal
 use Rattle.table.specs.Nodes.{Stands}
 use Rattle.table.specs.declared.Walked.{Walked}
 use Rattle.table.specs.declared.Walked.the-variants.{NoProgram, Loose, Scoped}
@@ -30,11 +31,21 @@ ScopedIn within d (abs h p) = ScopedIn within (inside within d h) p
 ScopedIn within d (fresh t) = ScopedIn within (suc d) t
 ScopedIn within d (two o s t) = ScopedIn within d s × ScopedIn within d t
 
+-- why an index without a binder is refused; where the scope is said within allocated abstractions, by the first rule of coherence
+abbrev pub unbound : Bool → Refusal
+unbound within = cond within refusal.Incoherent refusal.NoBinder
+
+-- document 01's number for what a walk finds: 0 where every index has its binder
+abbrev pub walkedNumber : Bool → Walked → ℕ
+walkedNumber within NoProgram = number refusal.NoProgram
+walkedNumber within Loose = number (unbound within)
+walkedNumber within Scoped = 0
+
 -- what a walk over the nodes finds: no program with its numbers in range; one with an index that has no binder; one without
-pub data Walks (n : ℕ) (within : Bool) (t : List ℕ) (count : ℕ) : Walked → Type 0 where
-  nothing : ((p : Tree program) → TableOf n t count p → ⊥) → Walks n within t count NoProgram
-  loose : (p : Tree program) → TableOf n t count p → (ScopedIn within 0 p → ⊥) → Walks n within t count Loose
-  scoped : (p : Tree program) → TableOf n t count p → ScopedIn within 0 p → Walks n within t count Scoped
+pub data Walks (n : ℕ) (within : Bool) (t : List ℕ) (count : ℕ) : ℕ → Type 0 where
+  nothing : ((p : Tree program) → TableOf n t count p → ⊥) → Walks n within t count (number refusal.NoProgram)
+  loose : (p : Tree program) → TableOf n t count p → (ScopedIn within 0 p → ⊥) → Walks n within t count (number (unbound within))
+  scoped : (p : Tree program) → TableOf n t count p → ScopedIn within 0 p → Walks n within t count 0
 
 -- the part is exactly a thread's nodes, with their numbers in range
 pub record IsThread (n : ℕ) (part : List ℕ) : Type 0 where

@@ -2,7 +2,7 @@
 ghost use mathlib.Core.Path.{_≡_};
 ghost use mathlib.Core.Bool.{true};
 ghost use Prim.Native.Nat.{ℕ, _≤_, _<_};
-ghost use lib.ListN.{length, getD};
+ghost use lib.ListN.{length, getD, set};
 ghost use Rattle.table.specs.Checks.{IsThread, BodiesAgree, ProgramIn, ThreadsAgree};
 ghost use Rattle.table.specs.Marks.{numbered};
 use crate::kinds::ALLOCATED;
@@ -10,8 +10,25 @@ use crate::kinds::EMPTY;
 use crate::nodes::end_of;
 use crate::nodes::node_at;
 use crate::nodes::same_bodies;
+use calculus::Loc;
 
-// Forgets the locations of a thread: 0 stands for a location that was not met.
+// What is kept for a location: the node behind the first of its allocated abstractions, or 0 where none was met.
+fn first_of(first: &[u16], l: Loc) -> usize
+    requires { ⌜ l .0 < length (now first) ⌝ }
+    ensures { λ r. ⌜ r ≡ getD (now (first .entry)) (l .0) 0 ⌝ }
+{
+    first[l.0 as usize] as usize
+}
+
+fn keep_first(first: &mut [u16], l: Loc, at: usize)
+    requires { ⌜ l .0 < length (now first) ⌝ }
+    requires { ⌜ at < 65536 ⌝ }
+    ensures { λ _. ⌜ now (first .exit) ≡ set (now (first .entry)) (l .0) at ⌝ }
+{
+    first[l.0 as usize] = at as u16;
+}
+
+// Forgets the locations of a thread.
 fn forget_locations(part: &[u16], limit: usize, first: &mut [u16])
     requires { ⌜ IsThread limit (now part) ⌝ }
     requires { ⌜ limit ≤ length (now first) ⌝ }
@@ -23,8 +40,7 @@ fn forget_locations(part: &[u16], limit: usize, first: &mut [u16])
         let n = node_at(part, i);
         i += 1;
         if n.kind == ALLOCATED {
-            let l = n.number as usize;
-            first[l] = 0;
+            keep_first(first, Loc(n.number), 0);
         }
     }
 }
@@ -43,10 +59,10 @@ pub fn bodies_agree(part: &[u16], limit: usize, first: &mut [u16]) -> bool
         let n = node_at(part, i);
         i += 1;
         if n.kind == ALLOCATED {
-            let l = n.number as usize;
-            let f = first[l] as usize;
+            let l = Loc(n.number);
+            let f = first_of(first, l);
             if f == 0 {
-                first[l] = i as u16;
+                keep_first(first, l, i);
             } else if !same_bodies(&part[2 * f..], &part[2 * i..]) {
                 return false;
             }

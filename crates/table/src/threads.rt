@@ -3,7 +3,7 @@ ghost use mathlib.Core.Path.{_≡_};
 ghost use Prim.Native.Nat.{_+_, _*_};
 ghost use lib.ListN.{length};
 ghost use Rattle.table.specs.Checks.{in-force};
-ghost use Rattle.table.specs.Threads.{ProgramAt, PlaceOf, SpanOf, ThreadPart};
+ghost use Rattle.table.specs.Threads.{ProgramAt, placeValues, PlaceOf, SpanOf, ThreadPart};
 use crate::Checked;
 use crate::Place;
 use crate::Span;
@@ -15,7 +15,7 @@ use crate::nodes::node_at;
 // Where thread k of the program at the front stands.
 pub fn place_of(t: &[u16], k: usize) -> Place
     requires { ⌜ ProgramAt (now t) ⌝ }
-    ensures { λ r. ⌜ PlaceOf (now (t .entry)) k r ⌝ }
+    ensures { λ r. ⌜ PlaceOf (now (t .entry)) k (placeValues r) ⌝ }
 {
     let mut at: usize = 0;
     let mut i: usize = 0;

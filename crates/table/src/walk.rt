@@ -3,7 +3,7 @@
 ghost use mathlib.Core.Path.{_≡_};
 ghost use Prim.Native.Nat.{_+_, _≤_, _<_};
 ghost use lib.ListN.{length};
-ghost use Rattle.table.specs.Checks.{Walks};
+ghost use Rattle.table.specs.Checks.{walkedNumber, Walks};
 ghost use Rattle.table.specs.Pending.{sort-where, may, PartsPut};
 use crate::Walked;
 use crate::kinds::ABSTRACTION;
@@ -60,7 +60,7 @@ fn put_parts(pending: &mut [u16], top: usize, k: u16, d: u16, within: bool) -> u
 pub fn walk(t: &[u16], count: usize, limit: usize, within: bool, pending: &mut [u16]) -> Walked
     requires { ⌜ limit < 32768 ⌝ }
     requires { ⌜ limit + 2 ≤ length (now pending) ⌝ }
-    ensures { λ r. ⌜ Walks limit within (now (t .entry)) count r ⌝ }
+    ensures { λ r. ⌜ Walks limit within (now (t .entry)) count (walkedNumber within r) ⌝ }
 {
     if limit < count || t.len() / 2 < count {
         return Walked::NoProgram;

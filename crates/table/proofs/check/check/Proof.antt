@@ -58,7 +58,7 @@ returns-4 : tie.Need-returns-4
 returns-4 c =
     let d = c .before .before .before in
     let e = d .before .before in
-    rw (← e .before .before .before .before .before .before .before .limit-in-force .ensures) (not-within (closed-there e) (λ f. ⊎-elim (λ (h : _≡_ {A = ℕ} 2 0). omega arith) (λ (h : _≡_ {A = ℕ} 2 1). omega arith) (rw f at (c .match2 .keys2))) (d .walk2 .ensures))
+    rw (← e .before .before .before .before .before .before .before .limit-in-force .ensures) (not-within (closed-there e) {r = d .walk2 .result} (λ f. ⊎-elim (λ (h : _≡_ {A = ℕ} 2 0). omega arith) (λ (h : _≡_ {A = ℕ} 2 1). omega arith) (rw f at (c .match2 .keys2))) (d .walk2 .ensures))
 
 threads-agree-requires : tie.Need-threads-agree-requires
 threads-agree-requires c κs =

@@ -27,11 +27,8 @@ node-at-requires c κs = omega arith
 add-i : tie.Need-add-i Inv-loop μ-loop
 add-i c = omega arith
 
-cast-l : tie.Need-cast-l Inv-loop μ-loop
-cast-l c = omega arith
-
 -- at a node of the kind 6
-at-six : (c : tie.After-struct-known2 Inv-loop μ-loop) →
+at-six : (c : tie.After-first-of-arg Inv-loop μ-loop) →
     let d = c .before .before .before in
     let s = d .before .before .before .before .before .before .before .before .before in
     AtBody (s .args .limit) (s .args .part .now) (length (s .args .part .now) / 2) (d .before .before .loop .i) (d .node-at .result .number) (d .before .before .before .before .before .forget-locations .last .1 .1 .0) (d .before .before .loop .first)
@@ -42,44 +39,34 @@ at-six c =
     let z = d .before .before .loop .inv .1 .same-size in
     at-body (f .before .before .before .before .pre .0) (omega arith) (d .before .loop-test .taken) (d .node-at .ensures) (c .before .if1 .taken) (omega arith) (d .before .before .loop .inv .1)
 
-mul-f : tie.Need-mul-f Inv-loop μ-loop
-mul-f c = omega arith
+first-of-requires : tie.Need-first-of-requires Inv-loop μ-loop
+first-of-requires c κs = at-six c .room
 
-slice-read-f : tie.Need-slice-read-f Inv-loop μ-loop
-slice-read-f c = at-six (c .before) .room
-
-cast-f : tie.Need-cast-f Inv-loop μ-loop
-cast-f c = omega (arith, first-before (at-six (c .before)))
-
-cast-first : tie.Need-cast-first Inv-loop μ-loop
-cast-first c = omega arith
-
-mul-first : tie.Need-mul-first Inv-loop μ-loop
-mul-first c = omega arith
-
-slice-write-first : tie.Need-slice-write-first Inv-loop μ-loop
-slice-write-first c = at-six (c .before .before) .room
+keep-first-requires : tie.Need-keep-first-requires Inv-loop μ-loop
+keep-first-requires c κs = (at-six (c .before .before .before) .room, omega arith)
 
 loop-less : tie.Need-loop-less Inv-loop μ-loop
 loop-less c = omega arith
 
 loop-again : tie.Need-loop-again Inv-loop μ-loop
-loop-again c = (omega arith, firsts-first (at-six (c .before .before)) (c .if2 .taken))
+loop-again c =
+    let d = c .before .before .before .before .before in
+    (omega arith, rw (c .before .before .keep-first .ensures) (firsts-first (at-six (d .before)) (d .first-of .ensures) (c .before .before .before .before .if2 .taken)))
 
 mul-same-bodies : tie.Need-mul-same-bodies Inv-loop μ-loop
-mul-same-bodies c = omega (arith, first-before (at-six (c .before .before)))
+mul-same-bodies c = omega (arith, first-before (at-six (c .before .before)) (c .before .first-of .ensures))
 
 mul-same-bodies-2 : tie.Need-mul-same-bodies-2 Inv-loop μ-loop
-mul-same-bodies-2 c = omega (arith, first-before (at-six (c .before .before)))
+mul-same-bodies-2 c = omega (arith, first-before (at-six (c .before .before)) (c .before .first-of .ensures))
 
 sub-same-bodies : tie.Need-sub-same-bodies Inv-loop μ-loop
-sub-same-bodies c = omega (arith, first-before (at-six (c .before .before)))
+sub-same-bodies c = omega (arith, first-before (at-six (c .before .before)) (c .before .first-of .ensures))
 
 part-same-bodies-start : tie.Need-part-same-bodies-start Inv-loop μ-loop
-part-same-bodies-start c = omega (arith, first-before (at-six (c .before .before)))
+part-same-bodies-start c = omega (arith, first-before (at-six (c .before .before)) (c .before .first-of .ensures))
 
 part-same-bodies-end : tie.Need-part-same-bodies-end Inv-loop μ-loop
-part-same-bodies-end c = omega (arith, first-before (at-six (c .before .before)))
+part-same-bodies-end c = omega (arith, first-before (at-six (c .before .before)) (c .before .first-of .ensures))
 
 mul-same-bodies-3 : tie.Need-mul-same-bodies-3 Inv-loop μ-loop
 mul-same-bodies-3 c = omega arith
@@ -97,21 +84,23 @@ part-same-bodies-end-2 : tie.Need-part-same-bodies-end-2 Inv-loop μ-loop
 part-same-bodies-end-2 c = omega arith
 
 same-bodies-requires : tie.Need-same-bodies-requires Inv-loop μ-loop
-same-bodies-requires c κs = bodies-stand (at-six (c .before .before .before .before)) (c .before .before .if2 .left)
+same-bodies-requires c κs = let d = c .before .before .before in bodies-stand (at-six (d .before)) (d .first-of .ensures) (c .before .before .if2 .left)
 
 same-length : tie.Need-same-length Inv-loop μ-loop
 same-length c = omega arith
 
 returns : tie.Need-returns Inv-loop μ-loop
 returns c =
-    firsts-differ (at-six (c .before .before .before .before .before .before)) (c .before .before .before .before .if2 .left) (c .before .same-bodies .ensures) (not-true _ (c .if3 .taken))
+    let d = c .before .before .before .before .before in
+    firsts-differ (at-six (d .before)) (d .first-of .ensures) (c .before .before .before .before .if2 .left) (c .before .same-bodies .ensures) (not-true _ (c .if3 .taken))
 
 loop-less-2 : tie.Need-loop-less-2 Inv-loop μ-loop
 loop-less-2 c = omega arith
 
 loop-again-2 : tie.Need-loop-again-2 Inv-loop μ-loop
 loop-again-2 c =
-    (omega arith, firsts-again (at-six (c .before .before .before .before .before .before)) (c .before .before .before .before .if2 .left) (c .before .same-bodies .ensures) (not-false _ (c .if3 .left)))
+    let d = c .before .before .before .before .before in
+    (omega arith, firsts-again (at-six (d .before)) (d .first-of .ensures) (c .before .before .before .before .if2 .left) (c .before .same-bodies .ensures) (not-false _ (c .if3 .left)))
 
 loop-less-3 : tie.Need-loop-less-3 Inv-loop μ-loop
 loop-less-3 c = omega arith
@@ -135,13 +124,8 @@ bodies-agree-spec =
     loop-holds
     node-at-requires
     add-i
-    cast-l
-    mul-f
-    slice-read-f
-    cast-f
-    cast-first
-    mul-first
-    slice-write-first
+    first-of-requires
+    keep-first-requires
     loop-less
     loop-again
     mul-same-bodies

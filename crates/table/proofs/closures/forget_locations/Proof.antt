@@ -1,6 +1,7 @@
 -- `forget_locations` meets its contract. The invariant: 0 stands at each location of the nodes passed.
-use Prim.Native.Nat.{_≤_, _-_}
+use Prim.Native.Nat.{_≤_, _<_, _-_}
 use native.Mathlib.Omega.{arith}
+use lib.ListN.{length}
 use Rattle.table.proofs.Positions.{numbered-node}
 use Rattle.table.proofs.Allocated.{met-here, met-in-range}
 use Rattle.table.proofs.Bodies.{Forgotten, forgotten-none, forgotten-pass, forgotten-put}
@@ -22,24 +23,23 @@ node-at-requires c κs = omega arith
 add-i : tie.Need-add-i Inv-loop μ-loop
 add-i c = omega arith
 
-cast-l : tie.Need-cast-l Inv-loop μ-loop
-cast-l c = omega arith
-
-mul-first : tie.Need-mul-first Inv-loop μ-loop
-mul-first c = omega arith
-
-slice-write-first : tie.Need-slice-write-first Inv-loop μ-loop
-slice-write-first c =
+-- the location of an allocated abstraction is an index of the entries
+in-first : (c : tie.After-keep-first-arg Inv-loop μ-loop) → c .before .before .before .node-at .result .number < length (c .before .before .before .before .before .loop .first)
+in-first c =
     let a = c .before .before .before in
-    omega (arith, met-in-range (a .before .before .before .before .before .pre .0) (omega arith) (met-here _ (a .node-at .ensures) (c .before .if1 .taken) (a .before .loop-test .taken)))
+    omega (arith, a .before .before .loop .inv .1 .same-size, met-in-range (a .before .before .before .before .before .pre .0) (omega arith) (met-here _ (a .node-at .ensures) (c .before .if1 .taken) (a .before .loop-test .taken)))
+
+keep-first-requires : tie.Need-keep-first-requires Inv-loop μ-loop
+keep-first-requires c κs = (in-first c, omega arith)
 
 loop-less : tie.Need-loop-less Inv-loop μ-loop
 loop-less c = omega arith
 
 loop-again : tie.Need-loop-again Inv-loop μ-loop
 loop-again c =
-    let a = c .before .before .before in
-    (omega arith, forgotten-put (a .node-at .ensures) (a .before .before .loop .inv .1) (slice-write-first c))
+    let b = c .before .before .before in
+    let a = b .before .before .before in
+    (omega arith, rw (c .before .before .keep-first .ensures) (forgotten-put (a .node-at .ensures) (a .before .before .loop .inv .1) (in-first b)))
 
 loop-less-2 : tie.Need-loop-less-2 Inv-loop μ-loop
 loop-less-2 c = omega arith
@@ -64,9 +64,7 @@ forget-locations-spec =
     loop-holds
     node-at-requires
     add-i
-    cast-l
-    mul-first
-    slice-write-first
+    keep-first-requires
     loop-less
     loop-again
     loop-less-2

@@ -7,7 +7,7 @@ use lib.ListN.{length, length-append}
 use Rattle.calculus.specs.Tree.{term, program, Tree, threads, program-of}
 use Rattle.calculus.proofs.Preorders.{threads-of-program}
 use Rattle.table.specs.Nodes.{NodeIs, Stands, SomeTree, Ends}
-use Rattle.table.specs.Threads.{ProgramAt, PlaceOf, from, missing}
+use Rattle.table.specs.Threads.{ProgramAt, placeValues, PlaceOf, from, missing}
 use Rattle.table.specs.declared.Place.the-variants.{From, Missing}
 use Rattle.table.proofs.Trees.{IsAlt, Reached, in-table, program-at, alt-at, reached-none, reached-more}
 use Rattle.table.proofs.threads.place_of.Statement.{statement}
@@ -25,7 +25,7 @@ start : {t : List ℕ} (k : ℕ) → ProgramAt t → Placing t k 0 0
 start k p = record { before = []; others = p .program-there; reached = reached-none (p .program-there) (p .stands); count = refl; small = omega arith; room = in-table (p .stands) }
 
 -- the empty node ends the program
-none-left : {t : List ℕ} {k at i m n : ℕ} → Placing t k at i → NodeIs t at m n → m ≡ 0 → PlaceOf t k Missing
+none-left : {t : List ℕ} {k at i m n : ℕ} → Placing t k at i → NodeIs t at m n → m ≡ 0 → PlaceOf t k (placeValues Missing)
 unfolding threads
 none-left {k} {i} h n e =
     let w = h .reached in
@@ -42,7 +42,7 @@ module _ {t : List ℕ} {k at i m n : ℕ} (h : Placing t k at i) (r : NodeIs t 
   thread-here = record { sort = term; tree = one-more .thread; stands = one-more .stands }
 
   module _ {e : ℕ} (d : Ends t (at + 1) e) where
-    found : i ≡ k → PlaceOf t k (From (at + 1) e)
+    found : i ≡ k → PlaceOf t k (placeValues (From (at + 1) e))
     unfolding threads
     found q =
         let a = one-more in
