@@ -16,7 +16,7 @@ use Rattle.calculus.specs.Report.{report, Reports, reported, refused}
 use Rattle.calculus.proofs.Preorders.{threads-of-program}
 use Rattle.calculus.proofs.Bytes.{first-byte}
 use Rattle.calculus.proofs.Ends.{report-example, refusal-example}
-use Rattle.text.proofs.RoundTrip.{good-read}
+use Rattle.promises.proofs.Admitted.{good-read}
 use Rattle.promises.proofs.Refused.{reads-exactly}
 use Rattle.promises.proofs.Excluded.{closures, one-good}
 

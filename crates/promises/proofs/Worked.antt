@@ -28,9 +28,8 @@ use Rattle.calculus.proofs.Standings.{Says, standing-exactly}
 use Rattle.calculus.proofs.Runs.{program-run-is}
 use Rattle.calculus.proofs.Preservation.{good-closed, good-coherent, step-good, run-good, run-choices, run-reductions}
 use Rattle.calculus.proofs.Outcomes.{table-of-unique, steps-once, runs-once}
-use Rattle.text.proofs.RoundTrip.{accepted, good-read-only, good-written-only}
 use Rattle.promises.specs.Worked.{HasRead, HasStepped, HasRun, HasStood}
-use Rattle.promises.proofs.Admitted.{closed-stable, coherent-stable, good-table, table-good}
+use Rattle.promises.proofs.Admitted.{closed-stable, coherent-stable, good-table, table-good, accepted, good-read-only, good-written-only}
 
 -- a good program's own numbers are a table that holds it, whatever stands behind them: what is said below is said of something
 pub front-table : {n : ℕ} {p : Tree program} (rest : List ℕ) → Good n p → TableOf n (preorder p ++ rest) (nodes p) p
