@@ -13,7 +13,7 @@ use borrow.Author.Tests.{eqb-true, eqb-false}
 use Rattle.calculus.specs.Sexp.{Sexp, one, many, atom, list, nothing, more, bytes}
 use Rattle.calculus.proofs.Decimals.{decimal-first}
 use Rattle.calculus.proofs.Bytes.{bytes-prefix, first-byte}
-use Rattle.csexp.specs.Items.{opening, closing, of-atom, Begins, itemBytes, Placed, Takes, took, cut, bad, OneExpression}
+use Rattle.csexp.specs.Items.{ItemBytes, opening, closing, of-atom, Begins, itemBytes, Placed, Takes, took, cut, bad, takenNumber, TakesNumber, some-item, no-item, OneExpression}
 use Rattle.csexp.specs.declared.Cursor.{Cursor}
 use Rattle.csexp.specs.declared.Item.{Item}
 use Rattle.csexp.specs.declared.Item.the-variants.{Open, Close, Atom}
@@ -31,7 +31,7 @@ Expects zero l = (e : Sexp one) × (bytes e ≡ l)
 Expects (suc d) l = Closes (suc d) l
 
 -- an atom's first byte is no bracket
-no-bracket : (b r q : List ℕ) (k : ℕ) → k < 48 → bytes (atom b) ++ r ≡ k ∷ q → ⊥
+pub no-bracket : (b r q : List ℕ) (k : ℕ) → k < 48 → bytes (atom b) ++ r ≡ k ∷ q → ⊥
 unfolding bytes
 no-bracket b r q k h e = decimal-first (length b) k _ q h (rw append-assoc at e)
 
@@ -123,6 +123,21 @@ pub none-taken : {s : List ℕ} {at : ℕ} {t : Taken} → Takes s at t → ((i 
 none-taken (took i next w h p) f b = f i (record { at = next }) refl
 none-taken (cut n q g) f b = n b
 none-taken {s} {at} (bad p a l n q g) f b = n (drop (suc p - at) (drop at s)) (rw take-append-drop b)
+
+item-bytes : (s : List ℕ) (i : Item) → ItemBytes (itemBytes s i)
+item-bytes s Open = opening
+item-bytes s Close = closing
+item-bytes s (Atom place n) = of-atom (take n (drop place s))
+
+-- what is taken has its number
+takes-number : {s : List ℕ} {at : ℕ} (t : Taken) → Takes s at t → TakesNumber s at (takenNumber t)
+takes-number {s} t (took i next w h p) = some-item (record { item = itemBytes s i; rest = drop next s; is-item = item-bytes s i; here = h })
+takes-number t (cut f q b) = no-item f
+takes-number {s} {at} t (bad p a l f q b) = no-item (λ g. f (drop (suc p - at) (drop at s)) (rw take-append-drop g))
+
+-- the answer, with its number
+pub numbered : {s : List ℕ} {at : ℕ} {t : Taken} → Takes s at t → Takes s at t × TakesNumber s at (takenNumber t)
+numbered {t = t} h = (h, takes-number t h)
 
 -- what can't follow at the beginning is no expression
 not-one : {s : List ℕ} → (Expects 0 s → ⊥) → OneExpression s false

@@ -4,7 +4,9 @@ use mathlib.Core.Bool.{Bool, true, false}
 use mathlib.Core.List.{List, [], _∷_, _++_}
 use Prim.Native.Nat.{ℕ, suc, _+_, _-_, _≤_, _<_}
 use lib.ListN.{length, take, drop}
+use Rattle.calculus.specs.declared.Refusal.the-variants.{NotCanonical}
 use Rattle.calculus.specs.Sexp.{decimal, one, Sexp, atom, bytes}
+use Rattle.calculus.specs.Answers.{number}
 use Rattle.csexp.specs.declared.Item.{Item}
 use Rattle.csexp.specs.declared.Item.the-variants.{Open, Close, Atom}
 use Rattle.csexp.specs.declared.Taken.{Taken}
@@ -41,6 +43,17 @@ pub data Takes (s : List ℕ) (at : ℕ) : Taken → Type 0 where
   took : (i : Item) (next : ℕ) → next ≤ length s → drop at s ≡ itemBytes s i ++ drop next s → Placed s at i next → Takes s at (Next i (record { at = next }))
   cut : (Begins (drop at s) → ⊥) → (more : List ℕ) → Begins (drop at s ++ more) → Takes s at Cut
   bad : (p : ℕ) → at ≤ p → p < length s → ((more : List ℕ) → Begins (take (suc p - at) (drop at s) ++ more) → ⊥) → (more : List ℕ) → Begins (take (p - at) (drop at s) ++ more) → Takes s at (Bad p)
+
+-- document 01's number for each answer: a cut or a bad byte is no canonical item, 0 where one is taken
+abbrev pub takenNumber : Taken → ℕ
+takenNumber (Next i c) = 0
+takenNumber Cut = number NotCanonical
+takenNumber (Bad p) = number NotCanonical
+
+-- 3 is told exactly where no item begins
+pub data TakesNumber (s : List ℕ) (at : ℕ) : ℕ → Type 0 where
+  some-item : Begins (drop at s) → TakesNumber s at 0
+  no-item : (Begins (drop at s) → ⊥) → TakesNumber s at (number NotCanonical)
 
 -- whether the text is the canonical bytes of one expression
 pub record OneExpression (s : List ℕ) (r : Bool) : Type 0 where

@@ -2,7 +2,7 @@
 ghost use mathlib.Core.Path.{_≡_};
 ghost use Prim.Native.Nat.{_+_, _-_, _*_, _^_, _<_, _≤_};
 ghost use lib.ListN.{length, getD};
-ghost use Rattle.csexp.specs.Items.{Takes, OneExpression};
+ghost use Rattle.csexp.specs.Items.{Takes, TakesNumber, takenNumber, OneExpression};
 ghost use Rattle.csexp.specs.Lengths.{Digit, Kept};
 
 // The reading place. A reader that has taken one item hands its place on to the next.
@@ -79,6 +79,7 @@ impl Cursor {
     // The item at the cursor.
     pub fn take(self, s: &[u8]) -> Taken
         ensures { λ r. ⌜ Takes (now (s .entry)) (self .at) r ⌝ }
+        ensures { λ r. ⌜ TakesNumber (now (s .entry)) (self .at) (takenNumber r) ⌝ }
     {
         let at = self.at;
         if s.len() <= at {

@@ -14,8 +14,8 @@ use Rattle.calculus.specs.Report.{report, refusal-report, reported, refused}
 use Rattle.calculus.proofs.Answers.{number-positive, reason-injective, same-value, number-small}
 use Rattle.calculus.proofs.Runs.{program-run-only}
 use Rattle.calculus.proofs.Outcomes.{table-of-unique}
-use Rattle.text.specs.Writer.{numeral, Wrote}
-use Rattle.text.proofs.RoundTrip.{accepted}
+use Rattle.writing.specs.Writer.{numeral, Wrote}
+use Rattle.promises.proofs.Admitted.{accepted}
 use Rattle.mespindro.specs.Limit.{limit}
 use Rattle.promises.specs.Worked.{HasRead, HasRun}
 use Rattle.promises.proofs.Worked.{read-gives, run-gives, good-runs}

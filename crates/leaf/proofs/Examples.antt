@@ -23,7 +23,7 @@ use Rattle.calculus.proofs.Bytes.{first-byte}
 use Rattle.calculus.proofs.Machines.{run-ended, run-goes, run-large, run-returns}
 use Rattle.calculus.proofs.Exclusions.{self-application, self-application-returns}
 use Rattle.calculus.proofs.Ends.{report-example, refusal-example}
-use Rattle.text.proofs.RoundTrip.{good-read}
+use Rattle.promises.proofs.Admitted.{good-read}
 use Rattle.promises.proofs.Refused.{reads-exactly}
 use Rattle.mespindro.specs.Limit.{limit}
 use Rattle.promises.proofs.Excluded.{closures, OneAtMost, one-good}

@@ -13,13 +13,13 @@ use Rattle.calculus.specs.Report.{refusal-report}
 use Rattle.calculus.proofs.Answers.{number-positive, number-small}
 use Rattle.calculus.proofs.Texts.{text-length}
 use Rattle.calculus.proofs.Outcomes.{table-of-unique}
-use Rattle.text.specs.Writer.{numeral, Room, Wrote}
-use Rattle.text.proofs.RoundTrip.{accepted}
+use Rattle.writing.specs.Writer.{numeral, Room, Wrote}
+use Rattle.promises.proofs.Admitted.{accepted}
 use Rattle.mespindro.specs.Limit.{limit}
 use Rattle.promises.proofs.Worked.{good-writes}
 use Rattle.leaf.specs.Reported.{longest}
 use Rattle.leaf.specs.Written.{reasonAtom, startBytes, HoldsGood, EndWritten}
-use Rattle.text.proofs.Written.{wrote-more}
+use Rattle.writing.proofs.Written.{wrote-more}
 use Rattle.leaf.proofs.Stores.{lent, given-back, lent-length, part-wrote}
 use Rattle.leaf.proofs.Shapes.{numeral-length, reason-length, refused-head, refusal-is, report-is}
 

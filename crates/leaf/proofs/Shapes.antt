@@ -15,8 +15,8 @@ use Rattle.calculus.specs.Answers.{number}
 use Rattle.calculus.specs.Known.{ascii}
 use Rattle.calculus.specs.Report.{report, refusal-report, refusedBytes}
 use Rattle.calculus.proofs.Decimals.{decimal-length}
-use Rattle.text.specs.Writer.{numeral}
-use Rattle.text.proofs.Written.{numeral-is}
+use Rattle.writing.specs.Writer.{numeral}
+use Rattle.writing.proofs.Written.{numeral-is}
 use Rattle.leaf.specs.Written.{reasonAtom, startBytes}
 
 -- a count of 16 bits takes at most 7 bytes

@@ -7,8 +7,8 @@ use native.Mathlib.Omega.{arith}
 use lib.ListN.{length, getD, take, drop, set, length-set, length-take, length-drop, drop-of-length-le}
 use lib.Seq.{sets, sets-eq, take-suc, take-all, length-take-le, length-sets, drop-drop}
 use Rattle.calculus.specs.Calls.{front}
-use Rattle.text.specs.Writer.{Room, Wrote}
-use Rattle.text.proofs.Written.{sets-append}
+use Rattle.writing.specs.Writer.{Room, Wrote}
+use Rattle.writing.proofs.Written.{sets-append}
 
 -- While bytes are written one by one: the first i of them stand there.
 pub record Filling (out₀ : List ℕ) (to : ℕ) (b out : List ℕ) (i : ℕ) : Type 0 where

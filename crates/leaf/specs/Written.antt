@@ -11,7 +11,7 @@ use Rattle.calculus.specs.Sexp.{atom, bytes}
 use Rattle.calculus.specs.Answers.{reasonBytes}
 use Rattle.calculus.specs.Calls.{TableOf}
 use Rattle.calculus.specs.Report.{report}
-use Rattle.text.specs.Writer.{numeral, Wrote}
+use Rattle.writing.specs.Writer.{numeral, Wrote}
 
 -- the atom of a reason
 unfoldable pub reasonAtom : Reason → List ℕ

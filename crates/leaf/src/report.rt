@@ -2,7 +2,7 @@
 ghost use Prim.Native.Nat.{_*_, _≤_, _<_};
 ghost use lib.ListN.{length};
 ghost use Rattle.calculus.specs.Report.{refusal-report};
-ghost use Rattle.text.specs.Writer.{Room, Wrote};
+ghost use Rattle.writing.specs.Writer.{Room, Wrote};
 ghost use Rattle.mespindro.specs.Limit.{limit};
 ghost use Rattle.leaf.specs.Reported.{longest, most, Reported, ReportedWhole};
 ghost use Rattle.leaf.specs.Written.{reasonAtom, startBytes, HoldsGood, Loaded, EndWritten, RunWritten};
@@ -12,8 +12,8 @@ use calculus::Reason;
 use calculus::Refusal;
 use calculus::refusal_number;
 use mespindro::NUMBERS;
-use text::write::put;
-use text::write::put_number;
+use writing::write::put;
+use writing::write::put_number;
 
 const STEP_LIMIT: u32 = 10000;
 

@@ -28,7 +28,7 @@ pub fn read(text: &[u8], out: &mut [u16]) -> Counted
     let mut build = [0u16; NUMBERS];
     let mut scratch = [0u16; SCRATCH];
     let mut goals = [0u8; TEXT + 2];
-    text::read::read(text, out, LIMIT, &mut build, &mut scratch, &mut goals)
+    reading::read::read(text, out, LIMIT, &mut build, &mut scratch, &mut goals)
 }
 
 // Writes the text of the program in a table: its bytes at the front of the output, or 1, 6, 8, 9.
@@ -36,7 +36,7 @@ pub fn write(table: &[u16], count: usize, out: &mut [u8]) -> Counted
     ensures { λ r. ⌜ Writes limit (now (table .entry)) count (now (out .entry)) (countedValues r) (now (out .exit)) ⌝ }
 {
     let mut scratch = [0u16; SCRATCH];
-    text::store::write(table, count, out, LIMIT, &mut scratch)
+    writing::store::write(table, count, out, LIMIT, &mut scratch)
 }
 
 // Makes a single step of the program in a table: the new program's nodes at the front of the output, or 1, 6, 7, 8, 9, 11.

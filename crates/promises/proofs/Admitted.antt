@@ -3,11 +3,17 @@ use mathlib.Core.Path.{_≡_, refl, ap, ap₂}
 use mathlib.Core.List.{List, [], _∷_}
 use Prim.Native.Nat.{ℕ, suc, _≤_, _<_}
 use native.Mathlib.Omega.{arith}
-use Rattle.calculus.specs.Tree.{Sort, term, program, Tree, empty, alt, bound, free, con, abs, fresh, two, preorder, threads}
+use lib.ListN.{length}
+use Rattle.calculus.specs.Tree.{Sort, term, program, Tree, empty, alt, bound, free, con, abs, fresh, two, preorder, nodes, threads}
 use Rattle.calculus.specs.Good.{Closed, Coherent, All, Good}
-use Rattle.calculus.specs.Calls.{Accepts, TableOf, table-refusals}
+use Rattle.calculus.specs.Run.{holds-nodes}
+use Rattle.calculus.specs.Sexp.{list}
+use Rattle.calculus.specs.Text.{encode, raw, raw-text, text}
+use Rattle.calculus.specs.Answers.{Values}
+use Rattle.calculus.specs.Calls.{Accepts, front, TextOf, Reads, read, TableOf, table-refusals, Writes, written}
 use Rattle.calculus.proofs.Preorders.{preorder-injective}
-use Rattle.calculus.proofs.Outcomes.{table-of-unique}
+use Rattle.calculus.proofs.Outcomes.{text-of-unique, table-of-unique, reads-once, writes-once}
+use Rattle.calculus.proofs.Texts.{text-length}
 
 -- it is denied that A is denied
 abbrev pub Undenied : Type 0 → Type 0
@@ -74,3 +80,54 @@ module _ {n : ℕ} {table : List ℕ} {count : ℕ} {p : Tree program} where
     closed = closed-stable 0 p (λ f. a .1 .0 (p, (t, f)));
     coherent = coherent-stable (threads p) (λ f. a .1 .1 .0 (p, (t, f)));
   }
+
+-- an accepted call's answer that is one number
+abbrev pub accepted : ℕ → Values
+accepted m = record { refusal = 0; values = m ∷ [] }
+
+module _ {n : ℕ} {p : Tree program} (g : Good n p) where
+  -- the text of a good program is read, whatever else a table with room for it holds
+  pub good-read : (out : List ℕ) → n ≤ 65536 → nodes p ≤ holds-nodes out → Reads n (text p) out (accepted (nodes p)) (front (preorder p) out)
+  unfolding text raw-text
+  good-read out l r =
+      let t : TextOf n (text p) p = record { is = refl; ranges = g .ranges } in
+      let same : (q : Tree program) → TextOf n (text p) q → q ≡ p = λ q h. text-of-unique h t in
+      read p (
+        (λ h. omega (arith, text-length n p (omega arith) (g .ranges), g .small)),
+        (
+          (λ f. f (list (encode (raw p))) refl),
+          (
+            (λ f. f .1 .1 (raw p) refl),
+            (
+              (λ f. f .1 .1 p t),
+              (
+                (λ f. f .1 .1 (rw (same (f .0) (f .1 .0)) (g .closed))),
+                (
+                  (λ f. omega (arith, f .1 .1, g .small, ap nodes (same (f .0) (f .1 .0)))),
+                  (
+                    (λ f. f .1 .1 (rw (same (f .0) (f .1 .0)) (g .coherent))),
+                    ((λ f. omega (arith, f .1 .1, ap nodes (same (f .0) (f .1 .0)))), tt),
+                  ),
+                ),
+              ),
+            ),
+          ),
+        ),
+      )
+      t
+
+  -- and nothing else can come of it
+  pub good-read-only : {out : List ℕ} {v : Values} {after : List ℕ} → n ≤ 65536 → nodes p ≤ holds-nodes out → Reads n (text p) out v after → (v ≡ accepted (nodes p)) × (after ≡ front (preorder p) out)
+  good-read-only {out} l r h = reads-once h (good-read out l r)
+
+  module _ {table : List ℕ} {count : ℕ} (t : TableOf n table count p) where
+    -- its table is written, whatever else an output with room for its text holds
+    pub good-written : (out : List ℕ) → length (text p) ≤ length out → Writes n table count out (accepted (length (text p))) (front (text p) out)
+    good-written out r =
+        let a = good-table t g in
+        let fits : (q : Tree program) × (TableOf n table count q × (length out < length (text q))) → ⊥ = λ f. omega (arith, f .1 .1, ap (λ (q : Tree program). length (text q)) (table-of-unique (f .1 .0) t)) in
+        written p (a .0, (a .1 .0, (a .1 .1 .0, (fits, tt)))) t
+
+    -- and nothing else can come of it
+    pub good-written-only : {out : List ℕ} {v : Values} {after : List ℕ} → length (text p) ≤ length out → Writes n table count out v after → (v ≡ accepted (length (text p))) × (after ≡ front (text p) out)
+    good-written-only {out} r h = writes-once h (good-written out r)

@@ -32,9 +32,8 @@ use Rattle.calculus.proofs.Runs.{next-of}
 use Rattle.calculus.proofs.Refusals.{read-ascends}
 use Rattle.calculus.proofs.Outcomes.{text-of-unique, parts-once}
 use Rattle.mespindro.specs.Limit.{limit}
-use Rattle.text.proofs.RoundTrip.{good-read-only}
 use Rattle.promises.specs.Boundaries.{ReadGives, fresh-text, nested, fresh-numbers, ReadBoundaries, CallsGive, CallsAccept, TableBoundaries, fresh-over, closure, put-into, twice, twice-and-one, CallBoundaries, RunBoundaries}
-use Rattle.promises.proofs.Admitted.{good-table}
+use Rattle.promises.proofs.Admitted.{good-table, good-read-only}
 use Rattle.promises.proofs.Refused.{refused-above, reads-exactly, writes-exactly, steps-exactly, runs-exactly, stands-exactly}
 use Rattle.promises.proofs.Worked.{front-held, front-table, reads-iff, writes-iff, table-step, good-steps, good-stopped, run-gives, good-runs, good-writes}
 use Rattle.promises.proofs.Heads.{stands-accepted}

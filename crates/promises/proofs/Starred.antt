@@ -20,8 +20,8 @@ use Rattle.calculus.proofs.Refusals.{accepted-not-refused}
 use Rattle.calculus.proofs.Preservation.{run-good}
 use Rattle.calculus.proofs.Ends.{starred-right}
 use Rattle.mespindro.specs.Limit.{limit}
-use Rattle.text.proofs.RoundTrip.{good-read-only, good-written-only}
 use Rattle.promises.specs.Calls.{RightCall, Each}
+use Rattle.promises.proofs.Admitted.{good-read-only, good-written-only}
 use Rattle.promises.proofs.Worked.{front-table, good-stopped}
 use Rattle.promises.proofs.Heads.{stands-accepted, threads-there}
 use Rattle.promises.proofs.Excluded.{closures, OneAtMost, one-good, runs-to}

@@ -33,9 +33,8 @@ use Rattle.calculus.proofs.Standings.{Says, standing-exactly}
 use Rattle.calculus.proofs.Runs.{program-run-is}
 use Rattle.calculus.proofs.Preservation.{good-closed, good-coherent, step-good, run-good, run-choices, run-reductions}
 use Rattle.calculus.proofs.Outcomes.{table-of-unique, steps-once, runs-once}
-use Rattle.text.proofs.RoundTrip.{accepted, good-read-only, good-written-only}
 use Rattle.promises.specs.Worked.{Readable, Writable, HasRead, HasWritten, Settled, HasStepped, HasRun, HasStood}
-use Rattle.promises.proofs.Admitted.{closed-stable, coherent-stable, good-table, table-good}
+use Rattle.promises.proofs.Admitted.{closed-stable, coherent-stable, good-table, table-good, accepted, good-read-only, good-written-only}
 
 -- a program's own numbers are a table that holds it, whatever stands behind them
 pub front-held : {n : ℕ} {p : Tree program} (rest : List ℕ) → nodes p ≤ n → InRange n p → TableOf n (preorder p ++ rest) (nodes p) p

@@ -16,7 +16,7 @@ use Rattle.calculus.proofs.Alls.{all-each, all-with}
 use Rattle.calculus.proofs.Outcomes.{table-of-unique}
 use Rattle.calculus.proofs.Preorders.{nodes-positive, threads-of-program}
 use Rattle.table.specs.Nodes.{Stands}
-use Rattle.table.specs.Checks.{walkedNumber, Walks, nothing, loose, scoped, OneBody, ProgramIn, ThreadsAgree, checkedNumber, Checks, admitted, refused}
+use Rattle.table.specs.Checks.{walkedNumber, Walks, nothing, loose, scoped, OneBody, ProgramIn, ThreadsAgree, in-force, checkedNumber, Checks, admitted, refused}
 use Rattle.table.specs.Threads.{ProgramAt, placeValues, PlaceOf, from, missing, SpanOf}
 use Rattle.table.specs.declared.Walked.{Walked}
 use Rattle.table.specs.declared.Walked.the-variants.{NoProgram, Loose, Scoped}
@@ -40,6 +40,10 @@ positive refusal.Incoherent = omega arith
 positive refusal.NoRoom = omega arith
 positive refusal.NoThread = omega arith
 positive refusal.Finished = omega arith
+
+-- with scratch enough the limit that the caller asks for is in force
+pub limit-in-force : (limit scratch : ℕ) → limit < 32767 → limit + 2 ≤ scratch → in-force limit scratch ≡ limit
+limit-in-force limit scratch h k = omega arith
 
 -- A list of refusals with more behind it.
 module _ (ds : Refusals) where

@@ -26,7 +26,7 @@ enum-known-item : tie.Need-enum-known-item Inv-loop μ-loop
 enum-known-item c = c .match .keys1
 
 returns : tie.Need-returns Inv-loop μ-loop
-returns c = not-item (c .before .before .loop .inv) (none-taken (c .before .take .ensures) (λ i k e. ⊎-elim (λ z. omega (arith, z)) (λ z. omega (arith, z)) (rw e at (c .match .keys2))))
+returns c = not-item (c .before .before .loop .inv) (none-taken (c .before .take .ensures .0) (λ i k e. ⊎-elim (λ z. omega (arith, z)) (λ z. omega (arith, z)) (rw e at (c .match .keys2))))
 
 enum-told : tie.Need-enum-told Inv-loop μ-loop
 enum-told c = c .match2 .keys1
@@ -38,7 +38,7 @@ enum-told-2 : tie.Need-enum-told-2 Inv-loop μ-loop
 enum-told-2 c = c .match2 .keys2
 
 returns-2 : tie.Need-returns-2 Inv-loop μ-loop
-returns-2 c = not-closing (c .before .before .before .before .before .before .before .loop .inv) (item-taken (c .before .before .before .before .before .before .take .ensures) _ _ (c .before .before .before .before .item .given .1)) (c .before .enum-told2 .given .1) (c .if1 .taken)
+returns-2 c = not-closing (c .before .before .before .before .before .before .before .loop .inv) (item-taken (c .before .before .before .before .before .before .take .ensures .0) _ _ (c .before .before .before .before .item .given .1)) (c .before .enum-told2 .given .1) (c .if1 .taken)
 
 sub-depth : tie.Need-sub-depth Inv-loop μ-loop
 sub-depth c = omega arith
@@ -50,7 +50,7 @@ enum-told-3 c = c .match2 .keys3
 passed : (c : tie.At-match2-came Inv-loop μ-loop) → Passed (c .before .before .before .before .before .before .before .before .args .s .now) (c .before .before .before .before .before .loop .c .at) (c .before .before .item .given .0 .1 .0 .at) (c .match2 .depth)
 passed c =
     let stage = c .before .before .before .before .before .loop .inv in
-    let taken = item-taken (c .before .before .before .before .take .ensures) _ _ (c .before .before .item .given .1) in
+    let taken = item-taken (c .before .before .before .before .take .ensures .0) _ _ (c .before .before .item .given .1) in
     ⊎-elim (λ w. pass-open stage taken _ (w .1 .given .1) (w .2)) (⊎-elim (λ w. pass-close stage taken _ (w .1 .given .1) (w .2 .left) (w .3)) (λ w. pass-atom stage taken _ _ _ (w .1 .given .1) (w .2))) (c .match2 .came)
 
 returns-3 : tie.Need-returns-3 Inv-loop μ-loop

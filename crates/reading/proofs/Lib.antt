@@ -1,0 +1,6 @@
+-- Laws of reading.
+pub mod Decimals
+pub mod Grammar
+pub mod Stacks
+pub mod Descents
+pub mod Readings

@@ -1,5 +1,0 @@
-pub mod Writing
-pub mod Writer
-pub mod Numbers
-pub mod Reading
-pub mod Descent

@@ -1,0 +1,3 @@
+// Table to text.
+pub mod store;
+pub mod write;
