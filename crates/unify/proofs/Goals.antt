@@ -14,12 +14,12 @@ use Rattle.calculus.proofs.Substitutes.{impossible, either, or-left, or-right}
 use Rattle.table.specs.Nodes.{Stands, SomeTree, Ends}
 use Rattle.table.proofs.Trees.{see, ends-in, moved}
 use Rattle.unify.specs.Classes.{Goal, Lent}
-use Rattle.unify.specs.Descent.{identityOf, Occurs, variable, Respects, Joined}
-use Rattle.unify.specs.Meeting.{Threaded, Room, EndsKept, Fresh, Within, Meant, Linked, Met, clashed, TreesMeet, TreesMet, behind, apart}
-use Rattle.unify.specs.declared.meet.Passed.{Passed}
-use Rattle.unify.specs.declared.meet.Passed.the-variants.{Apart, Behind}
-use Rattle.unify.proofs.Places.{identity-means, occurs, term-ends}
-use Rattle.unify.proofs.Descents.{sane, class-solves, merged-of}
+use Rattle.descent.specs.Descent.{identityOf, Occurs, variable, Respects, Joined}
+use Rattle.descent.specs.Meeting.{Threaded, Room, EndsKept, Fresh, Within, Meant, Linked, Met, clashed, TreesMeet, TreesMet, behind, apart}
+use Rattle.descent.specs.declared.meet.Passed.{Passed}
+use Rattle.descent.specs.declared.meet.Passed.the-variants.{Apart, Behind}
+use Rattle.descent.proofs.Places.{identity-means, occurs, term-ends}
+use Rattle.descent.proofs.Descents.{sane, class-solves, merged-of}
 
 -- the goal's thread
 pub goal-threaded : {n : ℕ} {t : List ℕ} {goal : ℕ} → Goal n t goal → Threaded n t

@@ -1,7 +1,4 @@
-// Unification of two values of one thread, by classes: neither value is copied.
-pub mod ends;
-pub mod links;
-pub mod meet;
+// Unification of two values of one thread, by the classes that the descent makes.
 pub mod sizes;
 pub mod solve;
 pub mod solved;
