@@ -29,10 +29,10 @@ item-requires : tie.Need-item-requires Inv-loop μ-loop
 item-requires c κs = search needs
 
 loop-less : tie.Need-loop-less Inv-loop μ-loop
-loop-less c = omega (arith, forward (c .before .before .before .before .take .ensures) _ _ (c .before .before .item .given .1))
+loop-less c = omega (arith, forward (c .before .before .before .before .take .ensures .0) _ _ (c .before .before .item .given .1))
 
 loop-again : tie.Need-loop-again Inv-loop μ-loop
-loop-again c = omega (arith, forward (c .before .before .before .before .take .ensures) _ _ (c .before .before .item .given .1))
+loop-again c = omega (arith, forward (c .before .before .before .before .take .ensures .0) _ _ (c .before .before .item .given .1))
 
 enum-told : tie.Need-enum-told Inv-loop μ-loop
 enum-told c = search needs
