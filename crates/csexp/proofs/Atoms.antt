@@ -10,7 +10,7 @@ use lib.Seq.{drop-cons, length-take-le, take-at, append-snoc, drop-drop}
 use Rattle.calculus.specs.Sexp.{decimal, atom, bytes}
 use Rattle.calculus.proofs.Decimals.{Digits, PlainDecimal, decimal-plain, decimal-small, decimal-colon, decimal-first, decimal-more}
 use Rattle.csexp.specs.Items.{ItemBytes, opening, closing, of-atom, Begins, itemBytes, Placed, Takes, took, cut, bad}
-use Rattle.csexp.specs.Lengths.{Kept, exact, beyond}
+use Rattle.csexp.specs.Lengths.{LengthKept, exact, beyond}
 use Rattle.csexp.specs.declared.Item.{Item}
 use Rattle.csexp.specs.declared.Item.the-variants.{Atom}
 use Rattle.csexp.specs.declared.Taken.the-variants.{Next, Cut, Bad}
@@ -128,7 +128,7 @@ pub record Read (s : List ℕ) (at first n i : ℕ) : Type 0 where
   pub digits : drop at s ≡ decimal m ++ drop i s
   pub place : i ≡ at + length (decimal m)
   pub within : i ≤ length s
-  pub kept : Kept (length s) n m
+  pub kept : LengthKept (length s) n m
   pub alone : first ≡ 48 → m ≡ 0
   pub long : (first ≡ 48 → ⊥) → 0 < m
 
@@ -139,14 +139,14 @@ read-first s at h low high =
     record { m = getD s at 0 - 48; digits = rw (e, drop-cons s at 0 h, add-one); place = rw e; within = omega arith; kept = exact refl; alone = λ z. omega arith; long = λ f. omega (arith, f) }
 
 -- one more digit of a kept length stands for one more of the true one
-kept-more : {most n m r : ℕ} (d : ℕ) → Kept most n m → Kept most r (10 * n + d) → Kept most r (10 * m + d)
+kept-more : {most n m r : ℕ} (d : ℕ) → LengthKept most n m → LengthKept most r (10 * n + d) → LengthKept most r (10 * m + d)
 kept-more d (exact e) (exact f) = exact (omega arith)
 kept-more d (exact e) (beyond a b) = beyond a (omega arith)
 kept-more d (beyond a b) (exact f) = beyond (omega arith) (omega arith)
 kept-more d (beyond a b) (beyond f g) = beyond f (omega arith)
 
 -- one more digit is read
-pub read-more : {s : List ℕ} {at first n i r : ℕ} → Read s at first n i → (first ≡ 48 → ⊥) → i < length s → 48 ≤ getD s i 0 → getD s i 0 < 58 → Kept (length s) r (10 * n + (getD s i 0 - 48)) → Read s at first r (i + 1)
+pub read-more : {s : List ℕ} {at first n i r : ℕ} → Read s at first n i → (first ≡ 48 → ⊥) → i < length s → 48 ≤ getD s i 0 → getD s i 0 < 58 → LengthKept (length s) r (10 * n + (getD s i 0 - 48)) → Read s at first r (i + 1)
 read-more {s} {at} {first} {n} {i} {r} a f h low high k =
     let e = decimal-more (a .m) (getD s i 0) (a .long f) low high in
     record { m = 10 * a .m + (getD s i 0 - 48); digits = a .digits ∙ rw (e, drop-cons s i 0 h, append-snoc, add-one); place = rw e (simp length-append (omega arith)); within = omega arith; kept = kept-more (getD s i 0 - 48) (a .kept) k; alone = λ z. absurd (f z); long = λ z. omega (arith, a .long f) }
@@ -176,7 +176,7 @@ cut-bytes {s} {at} {first} {n} {i} a h e l = cut none (replicate m 0) (rw (colon
     q : List ℕ
     q = drop (i + 1) s
 
-    long : Kept (length s) n m → length q < m
+    long : LengthKept (length s) n m → length q < m
     long (exact k) = rw length-drop (omega arith)
     long (beyond k b) = rw length-drop (omega arith)
 
@@ -191,7 +191,7 @@ pub took-atom : {s : List ℕ} {at first n i : ℕ} → Read s at first n i → 
 unfolding bytes
 took-atom {s} {at} {first} {n} {i} a h e l = took (Atom (i + 1) n) (i + 1 + n) (omega arith) (colon a h e ∙ sym there) (rw same (omega arith), refl)
   where
-    exactly : Kept (length s) n (a .m) → n ≡ a .m
+    exactly : LengthKept (length s) n (a .m) → n ≡ a .m
     exactly (exact k) = k
     exactly (beyond k b) = absurd (omega arith)
 

@@ -9,6 +9,6 @@ pub record Digit (b : ℕ) (r : Bool) : Type 0 where
   pub none : r ≡ false → 48 ≤ b → b < 58 → ⊥
 
 -- a kept length stands for a true one: it is that, or both are beyond what there is
-pub data Kept (most kept true-one : ℕ) : Type 0 where
-  exact : kept ≡ true-one → Kept most kept true-one
-  beyond : most < kept → most < true-one → Kept most kept true-one
+pub data LengthKept (most kept true-one : ℕ) : Type 0 where
+  exact : kept ≡ true-one → LengthKept most kept true-one
+  beyond : most < kept → most < true-one → LengthKept most kept true-one

@@ -3,7 +3,7 @@ ghost use mathlib.Core.Path.{_≡_};
 ghost use Prim.Native.Nat.{_+_, _-_, _*_, _^_, _<_, _≤_};
 ghost use lib.ListN.{length, getD};
 ghost use Rattle.csexp.specs.Items.{Takes, TakesNumber, takenNumber, OneExpression};
-ghost use Rattle.csexp.specs.Lengths.{Digit, Kept};
+ghost use Rattle.csexp.specs.Lengths.{Digit, LengthKept};
 
 // The reading place. A reader that has taken one item hands its place on to the next.
 pub struct Cursor {
@@ -27,7 +27,7 @@ pub enum Taken {
 // One more digit of a length. A length beyond the text stays one beyond it, so that nothing wraps.
 fn longer(n: usize, digit: u8, most: usize) -> usize
     requires { ⌜ (48 ≤ digit) × (digit < 58) × (most + 9 < 2 ^ 64) ⌝ }
-    ensures { λ r. ⌜ Kept most r (10 * n + (digit - 48)) ⌝ }
+    ensures { λ r. ⌜ LengthKept most r (10 * n + (digit - 48)) ⌝ }
 {
     if most / 10 < n {
         most + 1

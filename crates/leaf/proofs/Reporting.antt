@@ -13,7 +13,7 @@ use Rattle.calculus.specs.Report.{refusal-report}
 use Rattle.calculus.proofs.Answers.{number-positive, number-small}
 use Rattle.calculus.proofs.Texts.{text-length}
 use Rattle.calculus.proofs.Outcomes.{table-of-unique}
-use Rattle.writing.specs.Writer.{numeral, Room, Wrote}
+use Rattle.writing.specs.Writer.{numeral, BytesFit, Wrote}
 use Rattle.promises.proofs.Admitted.{accepted}
 use Rattle.mespindro.specs.Limit.{limit}
 use Rattle.promises.proofs.Worked.{good-writes}
@@ -29,12 +29,12 @@ module _ (r : Refusal) {out mid : List ℕ} {a k : ℕ} (l : longest ≤ length 
   small = numeral-length k (omega (arith, number-small r))
 
   -- there is room for the number
-  pub refusal-number : Room mid a (numeral k)
+  pub refusal-number : BytesFit mid a (numeral k)
   refusal-number = record { fits = omega (arith, small) }
 
   module _ {last : List ℕ} {b : ℕ} (v : Wrote mid last a b (numeral k)) where
     -- and for the bracket
-    pub refusal-closing : Room last b (41 ∷ [])
+    pub refusal-closing : BytesFit last b (41 ∷ [])
     refusal-closing = record { fits = omega (arith, small) }
 
     -- which ends the refusal's report
@@ -44,7 +44,7 @@ module _ (r : Refusal) {out mid : List ℕ} {a k : ℕ} (l : longest ≤ length 
 -- The bytes b of the reason q, where that is the reason r.
 module _ {r q : Reason} {b : List ℕ} (e : r ≡ q) where
   -- there is room for as many
-  pub reason-room : {out : List ℕ} {to : ℕ} → length (reasonAtom q) ≡ length b → Room out to (reasonAtom r) → Room out to b
+  pub reason-room : {out : List ℕ} {to : ℕ} → length (reasonAtom q) ≡ length b → BytesFit out to (reasonAtom r) → BytesFit out to b
   reason-room d h = record { fits = omega (arith, ap (λ (x : Reason). length (reasonAtom x)) e) }
 
   -- where they are its atom they are written as such
@@ -54,12 +54,12 @@ module _ {r q : Reason} {b : List ℕ} (e : r ≡ q) where
 -- What a run's report begins with: a bracket, behind it the reason, behind that the steps.
 module _ (r : Reason) (k : ℕ) {out mid : List ℕ} {a : ℕ} (l : longest ≤ length out) (w : Wrote out mid 0 a (40 ∷ [])) where
   -- there is room for the reason
-  pub start-reason : Room mid a (reasonAtom r)
+  pub start-reason : BytesFit mid a (reasonAtom r)
   start-reason = record { fits = omega (arith, reason-length r) }
 
   module _ {last : List ℕ} {b : ℕ} (v : Wrote mid last a b (reasonAtom r)) where
     -- and for the steps
-    pub start-number : k < 65536 → Room last b (numeral k)
+    pub start-number : k < 65536 → BytesFit last b (numeral k)
     start-number h = record { fits = omega (arith, reason-length r, numeral-length k h) }
 
     -- which end it
@@ -95,7 +95,7 @@ module _ (r : Reason) (k : ℕ) {table : List ℕ} {count : ℕ} {out o : List �
       text-wrote = rw (worked .1, counts) (part-wrote o at (text (h .program-there)) (omega (arith, end-small, counts)))
 
       -- behind it there is room for the bracket
-      pub end-closing : Room (given-back o at e) (at + m) (41 ∷ [])
+      pub end-closing : BytesFit (given-back o at e) (at + m) (41 ∷ [])
       end-closing = record { fits = omega (arith, end-small, text-wrote) }
 
       -- which ends the report

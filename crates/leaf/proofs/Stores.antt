@@ -7,7 +7,7 @@ use native.Mathlib.Omega.{arith}
 use lib.ListN.{length, getD, take, drop, set, length-set, length-take, length-drop, drop-of-length-le}
 use lib.Seq.{sets, sets-eq, take-suc, take-all, length-take-le, length-sets, drop-drop}
 use Rattle.calculus.specs.Calls.{front}
-use Rattle.writing.specs.Writer.{Room, Wrote}
+use Rattle.writing.specs.Writer.{BytesFit, Wrote}
 use Rattle.writing.proofs.Written.{sets-append}
 
 -- While bytes are written one by one: the first i of them stand there.
@@ -18,7 +18,7 @@ pub record Filling (out₀ : List ℕ) (to : ℕ) (b out : List ℕ) (i : ℕ) :
   pub fits : to + length b ≤ length out₀
 
 -- before the first there are none
-pub filling-none : {out : List ℕ} {to : ℕ} {b : List ℕ} → Room out to b → Filling out to b out 0
+pub filling-none : {out : List ℕ} {to : ℕ} {b : List ℕ} → BytesFit out to b → Filling out to b out 0
 filling-none h = record { low = omega arith; is = refl; same = refl; fits = h .fits }
 
 -- one more

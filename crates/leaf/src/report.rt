@@ -2,7 +2,7 @@
 ghost use Prim.Native.Nat.{_*_, _≤_, _<_};
 ghost use lib.ListN.{length};
 ghost use Rattle.calculus.specs.Report.{refusal-report};
-ghost use Rattle.writing.specs.Writer.{Room, Wrote};
+ghost use Rattle.writing.specs.Writer.{BytesFit, Wrote};
 ghost use Rattle.mespindro.specs.Limit.{limit};
 ghost use Rattle.leaf.specs.Reported.{longest, most, Reported, ReportedWhole};
 ghost use Rattle.leaf.specs.Written.{reasonAtom, startBytes, HoldsGood, Loaded, EndWritten, RunWritten};
@@ -19,7 +19,7 @@ const STEP_LIMIT: u32 = 10000;
 
 // Some bytes.
 fn put_all(out: &mut [u8], to: usize, b: &[u8]) -> usize
-    requires { ⌜ Room (now out) to (now b) ⌝ }
+    requires { ⌜ BytesFit (now out) to (now b) ⌝ }
     ensures { λ r. ⌜ Wrote (now (out .entry)) (now (out .exit)) to r (now (b .entry)) ⌝ }
 {
     let mut i: usize = 0;
@@ -42,7 +42,7 @@ fn put_refusal(r: Refusal, out: &mut [u8]) -> usize
 
 // The atom of a reason.
 fn put_reason(reason: Reason, out: &mut [u8], to: usize) -> usize
-    requires { ⌜ Room (now out) to (reasonAtom reason) ⌝ }
+    requires { ⌜ BytesFit (now out) to (reasonAtom reason) ⌝ }
     ensures { λ r. ⌜ Wrote (now (out .entry)) (now (out .exit)) to r (reasonAtom reason) ⌝ }
 {
     match reason {

@@ -32,7 +32,7 @@ use Rattle.reading.specs.declared.parse.Descent.the-variants.{Out, To}
 use Rattle.reading.specs.declared.parse.Turn.{Turn}
 use Rattle.reading.specs.declared.parse.Turn.the-variants.{Out as Out-turn, To as To-turn}
 use Rattle.reading.specs.Reading.{none-found, Parses, out, bad, loose, of-nodes}
-use Rattle.reading.specs.Descent.{Between, AtomBetween, Note, no-node, node-note, followed, number-note, note, Keeps, Noted, Goal, kind, number, bracket, one-term, members, Fill, spelled, noted, Fills, spelled-all, noted-all, Passes, Leads, Reads, Beyond, Ahead, Descends, Row, tag, node-of, Heads, row, no-row, ends, waiting, cells-of, Pushes, Announces, Stacked, Stands, Ready, Tops, Follows, Advances, FoundAt, passed as passed-bracket}
+use Rattle.reading.specs.Descent.{Between, AtomBetween, Note, no-node, node-note, followed, number-note, note, Keeps, Noted, ToRead, kind, number, bracket, one-term, members, Fill, spelled, noted, Fills, spelled-all, noted-all, Passes, Leads, ReadsOn, Beyond, Ahead, Descends, Row, tag, node-of, Heads, row, no-row, ends, waiting, cells-of, Pushes, Announces, GoalsStacked, BeforeGoal, BeforeTerm, Tops, Follows, Advances, FoundAt, passed as passed-bracket}
 use Rattle.reading.proofs.Decimals.{not-plain}
 use Rattle.reading.proofs.Grammar.{parts, tag-injective, followed-assoc, followed-none, followed-end, term-of, term-spelled, term-noted, made, tagged, program-of, program-spelled, program-noted, member, note-read, note-unread, Told, told, treed}
 use Rattle.reading.proofs.Stacks.{next-goal, next-end, tag-long, announced-parts}
@@ -146,14 +146,14 @@ keep-loose k v w h = record { count = h .count; bad-so-far = h .bad-so-far; loos
 
 module _ {n : ℕ} {s : List ℕ} where
   -- nothing that the goal can be stands there
-  refused : {g : Goal} {gs : List Goal} {c : Cursor} {m : Met} {b b' : List ℕ} → ((a : Fill g) (r : List ℕ) → drop (c .at) s ≡ spelled g a ++ r → ⊥) → Reads n s (g ∷ gs) (To c m) b Out b'
+  refused : {g : ToRead} {gs : List ToRead} {c : Cursor} {m : Met} {b b' : List ℕ} → ((a : Fill g) (r : List ℕ) → drop (c .at) s ≡ spelled g a ++ r → ⊥) → ReadsOn n s (g ∷ gs) (To c m) b Out b'
   refused {g} {gs} f = record { then-on = λ hs z end l. rw l (λ a r h. f (a .0) (spelled-all (gs ++ hs) (a .1) ++ r) (h ∙ append-assoc (spelled g (a .0)) (spelled-all (gs ++ hs) (a .1)) r)) }
 
   -- what stands there can be nothing else
-  passed : {g : Goal} {c c' : Cursor} {m m' : Met} {b b' : List ℕ} (a : Fill g) → drop (c .at) s ≡ spelled g a ++ drop (c' .at) s → ((a' : Fill g) (r q : List ℕ) → spelled g a ++ r ≡ spelled g a' ++ q → r ≡ q) → ((w : Note) → Keeps w m b → Keeps (followed w (noted n g a)) m' b') → Reads n s (g ∷ []) (To c m) b (To c' m') b'
+  passed : {g : ToRead} {c c' : Cursor} {m m' : Met} {b b' : List ℕ} (a : Fill g) → drop (c .at) s ≡ spelled g a ++ drop (c' .at) s → ((a' : Fill g) (r q : List ℕ) → spelled g a ++ r ≡ spelled g a' ++ q → r ≡ q) → ((w : Note) → Keeps w m b → Keeps (followed w (noted n g a)) m' b') → ReadsOn n s (g ∷ []) (To c m) b (To c' m') b'
   passed {g} {c} {c'} {m} {m'} {b} {b'} a here u k = record { then-on = go }
     where
-      go : (hs : List Goal) (z : Descent) (end : List ℕ) → Leads n s hs (To c' m') b' z end → Leads n s (g ∷ hs) (To c m) b z end
+      go : (hs : List ToRead) (z : Descent) (end : List ℕ) → Leads n s hs (To c' m') b' z end → Leads n s (g ∷ hs) (To c m) b z end
       go hs Out end l = λ f r e. l (f .1) r (u (f .0) (drop (c' .at) s) (spelled-all hs (f .1) ++ r) (sym here ∙ e ∙ append-assoc (spelled g (f .0)) (spelled-all hs (f .1)) r))
       go hs (To c'' m'') end l = record {
         fills = (a, l .fills);
@@ -162,11 +162,11 @@ module _ {n : ℕ} {s : List ℕ} where
       }
 
 -- a node's kind takes nothing of the text
-node-reads : {n : ℕ} {s : List ℕ} {k : ℕ} {c : Cursor} {m m' : Met} {b b' : List ℕ} → Noted k 0 m b m' b' → Reads n s (kind k ∷ []) (To c m) b (To c m') b'
+node-reads : {n : ℕ} {s : List ℕ} {k : ℕ} {c : Cursor} {m m' : Met} {b b' : List ℕ} → Noted k 0 m b m' b' → ReadsOn n s (kind k ∷ []) (To c m) b (To c m') b'
 node-reads o = passed tt refl (λ a r q e. e) (o .kept)
 
 -- the goals hs at another place say the same as gs: what they are makes what gs are, and the other way round
-record Turns (n : ℕ) (s : List ℕ) (gs hs : List Goal) (c c' : Cursor) : Type 0 where
+record Turns (n : ℕ) (s : List ℕ) (gs hs : List ToRead) (c c' : Cursor) : Type 0 where
   before : List ℕ
   here : drop (c .at) s ≡ before ++ drop (c' .at) s
   make : Fills hs → Fills gs
@@ -175,7 +175,7 @@ record Turns (n : ℕ) (s : List ℕ) (gs hs : List Goal) (c c' : Cursor) : Type
   back : (f : Fills gs) (r : List ℕ) → drop (c .at) s ≡ spelled-all gs f ++ r → (g : Fills hs) × (drop (c' .at) s ≡ spelled-all hs g ++ r)
 
 -- so they lead where these lead
-turned : {n : ℕ} {s : List ℕ} {gs hs : List Goal} {c c' : Cursor} → Turns n s gs hs c c' → (m : Met) (b : List ℕ) (z : Descent) (end : List ℕ) → Leads n s hs (To c' m) b z end → Leads n s gs (To c m) b z end
+turned : {n : ℕ} {s : List ℕ} {gs hs : List ToRead} {c c' : Cursor} → Turns n s gs hs c c' → (m : Met) (b : List ℕ) (z : Descent) (end : List ℕ) → Leads n s hs (To c' m) b z end → Leads n s gs (To c m) b z end
 turned t m b Out end l = λ f r e. let g = t .back f r e in l (g .0) r (g .1)
 turned {s} {hs} t m b (To c'' m'') end l = record {
   fills = t .make (l .fills);
@@ -199,11 +199,11 @@ ahead-less h f c m e = let g = f c m e in omega arith
 -- The next goal.
 
 -- out
-out-ahead : {s cells : List ℕ} {k : ℕ} (c : Cursor) (m : Met) (w : Waiting) → Out-turn ≡ To-turn c m w → Beyond s k (c .at) (m .nodes) × Stacked cells (c .at) w
+out-ahead : {s cells : List ℕ} {k : ℕ} (c : Cursor) (m : Met) (w : Waiting) → Out-turn ≡ To-turn c m w → Beyond s k (c .at) (m .nodes) × GoalsStacked cells (c .at) w
 out-ahead c m w e = impossible (cc)
 
 -- a place, with what waits there
-turn-ahead : {s cells : List ℕ} {k : ℕ} {c : Cursor} {m : Met} {w : Waiting} → Beyond s k (c .at) (m .nodes) → Stacked cells (c .at) w → (c' : Cursor) (m' : Met) (w' : Waiting) → To-turn c m w ≡ To-turn c' m' w' → Beyond s k (c' .at) (m' .nodes) × Stacked cells (c' .at) w'
+turn-ahead : {s cells : List ℕ} {k : ℕ} {c : Cursor} {m : Met} {w : Waiting} → Beyond s k (c .at) (m .nodes) → GoalsStacked cells (c .at) w → (c' : Cursor) (m' : Met) (w' : Waiting) → To-turn c m w ≡ To-turn c' m' w' → Beyond s k (c' .at) (m' .nodes) × GoalsStacked cells (c' .at) w'
 turn-ahead {c} {m} {w} h g c' m' w' e =
     let p : c ≡ c' = cc in
     let q : m ≡ m' = cc in
@@ -211,40 +211,40 @@ turn-ahead {c} {m} {w} h g c' m' w' e =
     rw (← p, ← q, ← r) (h, g)
 
 -- goals that are read, before those that wait
-then-wait : {n : ℕ} {s : List ℕ} {gs : List Goal} {x y : Descent} {b b' : List ℕ} → Reads n s gs x b y b' → (hs : List Goal) → Follows n s (gs ++ hs) x b hs y b'
+then-wait : {n : ℕ} {s : List ℕ} {gs : List ToRead} {x y : Descent} {b b' : List ℕ} → ReadsOn n s gs x b y b' → (hs : List ToRead) → Follows n s (gs ++ hs) x b hs y b'
 then-wait r hs = record { then-on = r .then-on hs }
 
 -- out, whatever waits
-out-waits : {n : ℕ} {s : List ℕ} {gs : List Goal} {x : Descent} {b b' : List ℕ} → Reads n s gs x b Out b' → (hs : List Goal) → Follows n s (gs ++ hs) x b [] Out b'
+out-waits : {n : ℕ} {s : List ℕ} {gs : List ToRead} {x : Descent} {b b' : List ℕ} → ReadsOn n s gs x b Out b' → (hs : List ToRead) → Follows n s (gs ++ hs) x b [] Out b'
 out-waits r hs = record { then-on = r .then-on hs }
 
 -- one turn after another
-follows-on : {n : ℕ} {s : List ℕ} {gs hs ks : List Goal} {x y z : Descent} {b b' b'' : List ℕ} → Follows n s gs x b hs y b' → Follows n s hs y b' ks z b'' → Follows n s gs x b ks z b''
+follows-on : {n : ℕ} {s : List ℕ} {gs hs ks : List ToRead} {x y z : Descent} {b b' b'' : List ℕ} → Follows n s gs x b hs y b' → Follows n s hs y b' ks z b'' → Follows n s gs x b ks z b''
 follows-on p q = record { then-on = λ u end l. p .then-on u end (q .then-on u end l) }
 
 -- A bracket.
 
 module _ {n : ℕ} {s : List ℕ} {k : ℕ} {c : Cursor} {m : Met} {b : List ℕ} where
-  bracket-out : {b' : List ℕ} → ((r : List ℕ) → drop (c .at) s ≡ k ∷ r → ⊥) → Reads n s (bracket k ∷ []) (To c m) b Out b'
+  bracket-out : {b' : List ℕ} → ((r : List ℕ) → drop (c .at) s ≡ k ∷ r → ⊥) → ReadsOn n s (bracket k ∷ []) (To c m) b Out b'
   bracket-out f = refused (λ a. f)
 
-  bracket-reads : {c' : Cursor} → Between s (c .at) (c' .at) (k ∷ []) → Reads n s (bracket k ∷ []) (To c m) b (To c' m) b
+  bracket-reads : {c' : Cursor} → Between s (c .at) (c' .at) (k ∷ []) → ReadsOn n s (bracket k ∷ []) (To c m) b (To c' m) b
   bracket-reads h = passed tt (h .here) (λ a r t e. tail-eq-of-cons-eq e) (λ v g. rw followed-end g)
 
 -- it is passed, or is not there
-pub bracket-turn : {n : ℕ} {s : List ℕ} {k : ℕ} {c : Cursor} {m : Met} {b cells : List ℕ} {w : Waiting} (f : Found) → FoundAt k s (c .at) f → Beyond s 0 (c .at) (m .nodes) → Stacked cells (c .at) w → Advances n s (bracket k ∷ waiting (drop (w .top) cells)) c m b (passed-bracket f m w) b cells
+pub bracket-turn : {n : ℕ} {s : List ℕ} {k : ℕ} {c : Cursor} {m : Met} {b cells : List ℕ} {w : Waiting} (f : Found) → FoundAt k s (c .at) f → Beyond s 0 (c .at) (m .nodes) → GoalsStacked cells (c .at) w → Advances n s (bracket k ∷ waiting (drop (w .top) cells)) c m b (passed-bracket f m w) b cells
 bracket-turn {cells} {w} No-found h p q = record { follows = out-waits (bracket-out h) (waiting (drop (w .top) cells)); ahead = out-ahead }
 bracket-turn {cells} {w} (Behind c') h p q = record { follows = then-wait (bracket-reads h) (waiting (drop (w .top) cells)); ahead = turn-ahead (omega arith) (record { on = q .on; room = omega arith; binds = q .binds }) }
 
 -- Terms.
 
 -- no tag, no term
-pub term-none : {n : ℕ} {s : List ℕ} {d : ℕ} {hs : List Goal} {c : Cursor} {m : Met} {b b' cells : List ℕ} → ((k : ℕ) (r : List ℕ) → drop (c .at) s ≡ 40 ∷ bytes (atom (k ∷ [])) ++ r → ⊥) → Advances n s (one-term d ∷ hs) c m b Out-turn b' cells
+pub term-none : {n : ℕ} {s : List ℕ} {d : ℕ} {hs : List ToRead} {c : Cursor} {m : Met} {b b' cells : List ℕ} → ((k : ℕ) (r : List ℕ) → drop (c .at) s ≡ 40 ∷ bytes (atom (k ∷ [])) ++ r → ⊥) → Advances n s (one-term d ∷ hs) c m b Out-turn b' cells
 term-none {n} {d} {hs} f = record { follows = record { then-on = λ z end l. rw l (λ g r e. let t = made n d hs g r in f (tag (t .row)) _ (e ∙ t .is)) }; ahead = out-ahead }
 
 module _ {n : ℕ} {s : List ℕ} {k : ℕ} {c c' : Cursor} (t : Between s (c .at) (c' .at) (40 ∷ bytes (atom (k ∷ [])))) where
   -- behind the tag its row is to be read, and the closing bracket
-  row-turns : (d : ℕ) (hs : List Goal) (x : Row) → k ≡ tag x → Turns n s (one-term d ∷ hs) (parts n d x ++ (bracket 41 ∷ hs)) c c'
+  row-turns : (d : ℕ) (hs : List ToRead) (x : Row) → k ≡ tag x → Turns n s (one-term d ∷ hs) (parts n d x ++ (bracket 41 ∷ hs)) c c'
   row-turns d hs x e = record {
     before = 40 ∷ bytes (atom (k ∷ []));
     here = t .here;
@@ -261,7 +261,7 @@ module _ {n : ℕ} {s : List ℕ} {k : ℕ} {c c' : Cursor} (t : Between s (c .a
     row-follows : (cells : List ℕ) (x : Row) → k ≡ tag x → Follows n s (one-term (ends cells) ∷ waiting cells) (To c m) b (node-of n (ends cells) x ∷ waiting (cells-of x ++ cells)) (To c' m) b
     row-follows cells x e = rw (announced-parts n x cells) (record { then-on = turned (row-turns (ends cells) (waiting cells) x e) m b })
 
-    module _ {w : Waiting} {y : Descent} {b' cells : List ℕ} (p : Ready n s cells c m w) where
+    module _ {w : Waiting} {y : Descent} {b' cells : List ℕ} (p : BeforeTerm n s cells c m w) where
       -- its node is not there
       pub term-out : {cells' : List ℕ} → Heads n s (w .binders) k c' m b y b' → y ≡ Out → Advances n s (one-term (w .binders) ∷ waiting (drop (w .top) cells)) c m b Out-turn b' cells'
       term-out (row x e r a) f =
@@ -296,16 +296,16 @@ module _ {n : ℕ} {s : List ℕ} {d k : ℕ} {c : Cursor} {m : Met} {b b' : Lis
 
 -- What waits.
 
-module _ {n : ℕ} {s cells : List ℕ} {c : Cursor} {m : Met} {w : Waiting} (p : Stands n s cells c m w) where
+module _ {n : ℕ} {s cells : List ℕ} {c : Cursor} {m : Met} {w : Waiting} (p : BeforeGoal n s cells c m w) where
   -- behind the next goal, which ends no binder
   rest-binds : {goal : ℕ} → Tops cells (w .top) goal → ends (goal ∷ drop (w .top + 1) cells) ≡ ends (drop (w .top + 1) cells) → w .binders ≡ ends (drop (w .top + 1) cells)
   rest-binds t e = p .stacked .binds ∙ ap ends (next-goal cells (w .top) t) ∙ e
 
-  rest-stacked : {d : ℕ} → w .top < length cells → d ≡ ends (drop (w .top + 1) cells) → Stacked cells (c .at) (record { top = w .top + 1; binders = d })
+  rest-stacked : {d : ℕ} → w .top < length cells → d ≡ ends (drop (w .top + 1) cells) → GoalsStacked cells (c .at) (record { top = w .top + 1; binders = d })
   rest-stacked h e = record { on = omega arith; room = omega (arith, p .stacked .room); binds = e }
 
   -- a term before what waits behind it
-  pub term-ready : Tops cells (w .top) 0 → Ready n s cells c m (record { top = w .top + 1; binders = w .binders })
+  pub term-ready : Tops cells (w .top) 0 → BeforeTerm n s cells c m (record { top = w .top + 1; binders = w .binders })
   term-ready t = record { small = p .small; long = p .long; few = omega (arith, p .beyond .few); stacked = rest-stacked (t .on) (rest-binds t refl) }
 
   module _ {b : List ℕ} where
@@ -333,7 +333,7 @@ module _ {n : ℕ} {s cells : List ℕ} {c : Cursor} {m : Met} {w : Waiting} (p 
       unfolding bytes encode note
       members-end {c'} h o =
           let cs : List ℕ = drop (w .top + 1) cells in
-          let e : Reads n s (members (ends cs) ∷ []) (To c m) b (To c' m') b' = passed raw-empty (h .here) (λ a r q e. members-prefix nothing (encode a) r q (e ∙ append-snoc (bytes (encode a)) 41 q) .1) (o .kept) in
+          let e : ReadsOn n s (members (ends cs) ∷ []) (To c m) b (To c' m') b' = passed raw-empty (h .here) (λ a r q e. members-prefix nothing (encode a) r q (e ∙ append-snoc (bytes (encode a)) 41 q) .1) (o .kept) in
           record { follows = rw (next-goal cells (w .top) t) (then-wait e (waiting cs)); ahead = turn-ahead (omega (arith, p .beyond, o .one-more)) (record { on = omega (arith, t .on); room = omega (arith, p .stacked .room); binds = rest-binds t refl }) }
 
       -- another member
@@ -341,7 +341,7 @@ module _ {n : ℕ} {s cells : List ℕ} {c : Cursor} {m : Met} {w : Waiting} (p 
       members-more f o a =
           let cs : List ℕ = drop (w .top + 1) cells in
           let d : ℕ = ends cs in
-          let hs : List Goal = waiting cs in
+          let hs : List ToRead = waiting cs in
           let turns : Turns n s (members d ∷ hs) (kind 1 ∷ one-term d ∷ members d ∷ hs) c c = record { before = []; here = refl; make = program-of n d hs; spell = program-spelled n d hs; tell = program-noted n d hs; back = λ a r e. member n d hs a (drop (c .at) s) r f e } in
           let more : Follows n s (members d ∷ hs) (To c m) b (one-term d ∷ members d ∷ hs) (To c m') b' = follows-on (record { then-on = turned turns m b }) (then-wait (node-reads o) (one-term d ∷ members d ∷ hs)) in
           record { follows = rw (next-goal cells (w .top) t) (follows-on more (rw (rest-binds t refl, next-goal cells (w .top) t) at (a .follows))); ahead = a .ahead }
@@ -349,9 +349,9 @@ module _ {n : ℕ} {s cells : List ℕ} {c : Cursor} {m : Met} {w : Waiting} (p 
 -- The loop.
 
 -- where what waits leads, the goals gs lead from the place c₀ on
-pub record Looping (n : ℕ) (s : List ℕ) (gs : List Goal) (c₀ : Cursor) (m₀ : Met) (b₀ cells₀ : List ℕ) (c : Cursor) (m : Met) (w : Waiting) (b cells : List ℕ) : Type 0 where
+pub record Looping (n : ℕ) (s : List ℕ) (gs : List ToRead) (c₀ : Cursor) (m₀ : Met) (b₀ cells₀ : List ℕ) (c : Cursor) (m : Met) (w : Waiting) (b cells : List ℕ) : Type 0 where
   pub follows : Follows n s gs (To c₀ m₀) b₀ (waiting (drop (w .top) cells)) (To c m) b
-  pub stands : Stands n s cells c m w
+  pub stands : BeforeGoal n s cells c m w
   pub same-long : length b ≡ length b₀
   pub same-deep : length cells ≡ length cells₀
 
@@ -366,7 +366,7 @@ loop-start {cells} {cells₂} {t₂} h g k p q l =
       same-deep = refl;
     }
 
-module _ {n : ℕ} {s : List ℕ} {gs : List Goal} {c₀ : Cursor} {m₀ : Met} {b₀ cells₀ : List ℕ} {c : Cursor} {m : Met} {w : Waiting} {b cells : List ℕ} (l : Looping n s gs c₀ m₀ b₀ cells₀ c m w b cells) where
+module _ {n : ℕ} {s : List ℕ} {gs : List ToRead} {c₀ : Cursor} {m₀ : Met} {b₀ cells₀ : List ℕ} {c : Cursor} {m : Met} {w : Waiting} {b cells : List ℕ} (l : Looping n s gs c₀ m₀ b₀ cells₀ c m w b cells) where
   -- nothing waits
   pub loop-end : w .top ≡ length cells → Follows n s gs (To c₀ m₀) b₀ [] (To c m) b × Ahead s 0 (To c m)
   loop-end e =

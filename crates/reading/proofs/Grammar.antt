@@ -19,7 +19,7 @@ use Rattle.calculus.proofs.Decimals.{number-of, number-of-decimal}
 use Rattle.calculus.proofs.Bytes.{bytes-prefix}
 use Rattle.calculus.specs.Answers.{Values}
 use Rattle.reading.specs.Numbers.{NumberIs, is, bad}
-use Rattle.reading.specs.Descent.{Note, no-node, node-note, followed, same, is-number, leaf-kind, leaf-below, number-note, note, Goal, kind, number, bracket, one-term, members, Fills, spelled-all, noted-all, Row, leaf, code, located, opened, pair, tag}
+use Rattle.reading.specs.Descent.{Note, no-node, node-note, followed, same, is-number, leaf-kind, leaf-below, number-note, note, ToRead, kind, number, bracket, one-term, members, Fills, spelled-all, noted-all, Row, leaf, code, located, opened, pair, tag}
 use Rattle.reading.proofs.Decimals.{not-plain}
 
 impossible : {A : Type 0} → _≡_ {A = ℕ} 0 1 → A
@@ -30,7 +30,7 @@ both-true true b e = (refl, e)
 both-true false b e = impossible (cc)
 
 -- what is to be read behind the tag, up to the closing bracket
-abbrev pub parts : ℕ → ℕ → Row → List Goal
+abbrev pub parts : ℕ → ℕ → Row → List ToRead
 parts n d (leaf l) = number (leaf-kind l) (leaf-below n l) d ∷ []
 parts n d code = kind 5 ∷ bracket 40 ∷ members (d + 1) ∷ []
 parts n d located = number 6 n d ∷ bracket 40 ∷ members (d + 1) ∷ []
@@ -105,7 +105,7 @@ ruleset spellings = (list-spelled, more-spelled, nothing-spelled, append-assoc)
 
 -- Terms and programs before other goals hs.
 
-module _ (n d : ℕ) (hs : List Goal) where
+module _ (n d : ℕ) (hs : List ToRead) where
   -- what is to be read behind a tag, and then hs
   abbrev pub Behind : Row → Type 0
   Behind x = Fills (parts n d x ++ (bracket 41 ∷ hs))

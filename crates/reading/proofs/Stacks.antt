@@ -13,7 +13,7 @@ use Rattle.calculus.specs.Text.{bound-leaf, free-leaf, con-leaf}
 use Rattle.csexp.specs.declared.Cursor.{Cursor}
 use Rattle.reading.specs.declared.goals.Waiting.{Waiting}
 use Rattle.reading.specs.declared.parse.Met.{Met}
-use Rattle.reading.specs.Descent.{Between, bracket, Row, leaf, code, located, opened, pair, tag, node-of, ends, waiting, cells-of, Pushes, Announced, Announces, Ready, Tops}
+use Rattle.reading.specs.Descent.{Between, bracket, Row, leaf, code, located, opened, pair, tag, node-of, ends, waiting, cells-of, Pushes, Announced, Announces, BeforeTerm, Tops}
 use Rattle.reading.proofs.Grammar.{parts, tag-injective}
 
 -- one goal more
@@ -63,7 +63,7 @@ unfolding bytes
 tag-long {s} {at} {next} k t = omega (arith, t .forward, t .within, ap length (t .here), length-drop at s, length-drop next s)
 
 -- there is room for what it announces
-pub room-there : {n : ℕ} {s cells : List ℕ} {c c' : Cursor} {m : Met} {w : Waiting} (k : ℕ) → Ready n s cells c m w → Between s (c .at) (c' .at) (40 ∷ bytes (atom (k ∷ []))) → (3 ≤ w .top) × (w .top ≤ length cells) × (w .binders < length cells)
+pub room-there : {n : ℕ} {s cells : List ℕ} {c c' : Cursor} {m : Met} {w : Waiting} (k : ℕ) → BeforeTerm n s cells c m w → Between s (c .at) (c' .at) (40 ∷ bytes (atom (k ∷ []))) → (3 ≤ w .top) × (w .top ≤ length cells) × (w .binders < length cells)
 room-there {cells} {w} k p t =
     let h = p .stacked in
     (omega (arith, tag-long k t, t .within, p .long, h .room), h .on, omega (arith, tag-long k t, t .within, p .long, h .room, h .on, h .binds, ends-few (drop (w .top) cells), length-drop (w .top) cells))

@@ -123,15 +123,15 @@ pub record Noted (k v : ℕ) (m : Met) (build : List ℕ) (m' : Met) (build' : L
 
 -- what is to be read: a node's kind, of which the text has nothing; the N of a node of a kind, below a bound, d binders around it; a bracket;
 -- a term; the members of a program with its closing bracket
-pub data Goal : Type 0 where
-  kind : ℕ → Goal
-  number : ℕ → ℕ → ℕ → Goal
-  bracket : ℕ → Goal
-  one-term : ℕ → Goal
-  members : ℕ → Goal
+pub data ToRead : Type 0 where
+  kind : ℕ → ToRead
+  number : ℕ → ℕ → ℕ → ToRead
+  bracket : ℕ → ToRead
+  one-term : ℕ → ToRead
+  members : ℕ → ToRead
 
 -- what it can be, with an arbitrary atom for an N
-abbrev pub Fill : Goal → Type 0
+abbrev pub Fill : ToRead → Type 0
 Fill (kind k) = Unit {0}
 Fill (number k below d) = List ℕ
 Fill (bracket k) = Unit {0}
@@ -139,7 +139,7 @@ Fill (one-term d) = Raw term
 Fill (members d) = Raw program
 
 -- its bytes
-abbrev pub spelled : (g : Goal) → Fill g → List ℕ
+abbrev pub spelled : (g : ToRead) → Fill g → List ℕ
 spelled (kind k) f = []
 spelled (number k below d) f = bytes (atom f)
 spelled (bracket k) f = k ∷ []
@@ -147,7 +147,7 @@ spelled (one-term d) f = bytes (encode f)
 spelled (members d) f = bytes (encode f) ++ (41 ∷ [])
 
 -- what is noted of it under the limit n
-abbrev pub noted : ℕ → (g : Goal) → Fill g → Note
+abbrev pub noted : ℕ → (g : ToRead) → Fill g → Note
 noted n (kind k) f = node-note k 0 false false
 noted n (number k below d) f = number-note k below d f
 noted n (bracket k) f = no-node
@@ -155,33 +155,33 @@ noted n (one-term d) f = note n d f
 noted n (members d) f = note n d f
 
 -- the same for one goal after the other
-abbrev pub Fills : List Goal → Type 0
+abbrev pub Fills : List ToRead → Type 0
 Fills [] = Unit {0}
 Fills (g ∷ gs) = Fill g × Fills gs
 
-abbrev pub spelled-all : (gs : List Goal) → Fills gs → List ℕ
+abbrev pub spelled-all : (gs : List ToRead) → Fills gs → List ℕ
 spelled-all [] f = []
 spelled-all (g ∷ gs) f = spelled g (f .0) ++ spelled-all gs (f .1)
 
-abbrev pub noted-all : ℕ → (gs : List Goal) → Fills gs → Note
+abbrev pub noted-all : ℕ → (gs : List ToRead) → Fills gs → Note
 noted-all n [] f = no-node
 noted-all n (g ∷ gs) f = followed (noted n g (f .0)) (noted-all n gs (f .1))
 
 -- the goals stand between two places, and are kept
-pub record Passes (n : ℕ) (s : List ℕ) (gs : List Goal) (at : ℕ) (m : Met) (build : List ℕ) (next : ℕ) (m' : Met) (build' : List ℕ) : Type 0 where
+pub record Passes (n : ℕ) (s : List ℕ) (gs : List ToRead) (at : ℕ) (m : Met) (build : List ℕ) (next : ℕ) (m' : Met) (build' : List ℕ) : Type 0 where
   pub fills : Fills gs
   pub here : drop at s ≡ spelled-all gs fills ++ drop next s
   pub kept : (w : Note) → Keeps w m build → Keeps (followed w (noted-all n gs fills)) m' build'
 
 -- where the descent x leads if these goals are still to be read: out, if they don't stand there
-abbrev pub Leads : ℕ → List ℕ → List Goal → Descent → List ℕ → Descent → List ℕ → Type 0
+abbrev pub Leads : ℕ → List ℕ → List ToRead → Descent → List ℕ → Descent → List ℕ → Type 0
 Leads n s gs Out build z end = z ≡ Out
 Leads n s gs (To c m) build Out end = (f : Fills gs) (r : List ℕ) → drop (c .at) s ≡ spelled-all gs f ++ r → ⊥
 Leads n s gs (To c m) build (To c' m') end = Passes n s gs (c .at) m build (c' .at) m' end
 
 -- x becomes y by reading the goals: whatever is to be read behind them, where y leads x leads
-pub record Reads (n : ℕ) (s : List ℕ) (gs : List Goal) (x : Descent) (build : List ℕ) (y : Descent) (build' : List ℕ) : Type 0 where
-  pub then-on : (hs : List Goal) (z : Descent) (end : List ℕ) → Leads n s hs y build' z end → Leads n s (gs ++ hs) x build z end
+pub record ReadsOn (n : ℕ) (s : List ℕ) (gs : List ToRead) (x : Descent) (build : List ℕ) (y : Descent) (build' : List ℕ) : Type 0 where
+  pub then-on : (hs : List ToRead) (z : Descent) (end : List ℕ) → Leads n s hs y build' z end → Leads n s (gs ++ hs) x build z end
 
 -- a place from k on, within the text, with at most as many nodes
 pub record Beyond (s : List ℕ) (k at nodes : ℕ) : Type 0 where
@@ -194,8 +194,8 @@ abbrev pub Ahead : List ℕ → ℕ → Descent → Type 0
 Ahead s k x = (c : Cursor) (m : Met) → x ≡ To c m → Beyond s k (c .at) (m .nodes)
 
 -- what a descent by these goals owes
-pub record Descends (n : ℕ) (s : List ℕ) (gs : List Goal) (c : Cursor) (m : Met) (build : List ℕ) (y : Descent) (build' : List ℕ) : Type 0 where
-  pub reads : Reads n s gs (To c m) build y build'
+pub record Descends (n : ℕ) (s : List ℕ) (gs : List ToRead) (c : Cursor) (m : Met) (build : List ℕ) (y : Descent) (build' : List ℕ) : Type 0 where
+  pub reads : ReadsOn n s gs (To c m) build y build'
   pub ahead : Ahead s (c .at + 1) y
 
 -- Tags.
@@ -215,7 +215,7 @@ tag opened = 110
 tag (pair o) = pairTag o
 
 -- the node behind the tag
-abbrev pub node-of : ℕ → ℕ → Row → Goal
+abbrev pub node-of : ℕ → ℕ → Row → ToRead
 node-of n d (leaf l) = number (leaf-kind l) (leaf-below n l) d
 node-of n d code = kind 5
 node-of n d located = number 6 n d
@@ -224,7 +224,7 @@ node-of n d (pair o) = kind (pairKind o)
 
 -- the node of the tag k is read, which leaves at most as many nodes as places; or no row has this tag
 pub data Heads (n : ℕ) (s : List ℕ) (d k : ℕ) (c : Cursor) (m : Met) (build : List ℕ) (y : Descent) (build' : List ℕ) : Type 0 where
-  row : (x : Row) → k ≡ tag x → Reads n s (node-of n d x ∷ []) (To c m) build y build' → Ahead s (c .at) y → Heads n s d k c m build y build'
+  row : (x : Row) → k ≡ tag x → ReadsOn n s (node-of n d x ∷ []) (To c m) build y build' → Ahead s (c .at) y → Heads n s d k c m build y build'
   no-row : ((x : Row) → k ≡ tag x → ⊥) → y ≡ Out → Heads n s d k c m build y build'
 
 -- The goals that wait, as cells of a stack, the next first.
@@ -235,7 +235,7 @@ ends [] = 0
 ends (cell ∷ cells) = getD (ends cells ∷ ends cells ∷ ends cells ∷ ends cells ∷ []) cell (ends cells + 1)
 
 -- what they stand for
-abbrev pub waiting : List ℕ → List Goal
+abbrev pub waiting : List ℕ → List ToRead
 waiting [] = []
 waiting (cell ∷ cells) = getD (one-term (ends cells) ∷ members (ends cells) ∷ bracket 40 ∷ bracket 41 ∷ []) cell (bracket 41) ∷ waiting cells
 
@@ -264,24 +264,24 @@ pub record Announces (k : ℕ) (w : Waiting) (cells : List ℕ) (w' : Waiting) (
   pub by-row : (x : Row) → k ≡ tag x → Announced x w cells w' cells'
 
 -- the stack: never more cells than the bytes passed and two, and the binders that end among them
-pub record Stacked (cells : List ℕ) (at : ℕ) (w : Waiting) : Type 0 where
+pub record GoalsStacked (cells : List ℕ) (at : ℕ) (w : Waiting) : Type 0 where
   pub on : w .top ≤ length cells
   pub room : length cells ≤ w .top + at + 2
   pub binds : w .binders ≡ ends (drop (w .top) cells)
 
 -- before the next goal
-pub record Stands (n : ℕ) (s cells : List ℕ) (c : Cursor) (m : Met) (w : Waiting) : Type 0 where
+pub record BeforeGoal (n : ℕ) (s cells : List ℕ) (c : Cursor) (m : Met) (w : Waiting) : Type 0 where
   pub small : n < constructors
   pub long : length s + 2 ≤ length cells
   pub beyond : Beyond s 0 (c .at) (m .nodes)
-  pub stacked : Stacked cells (c .at) w
+  pub stacked : GoalsStacked cells (c .at) w
 
 -- before a term, whose alternative is noted
-pub record Ready (n : ℕ) (s cells : List ℕ) (c : Cursor) (m : Met) (w : Waiting) : Type 0 where
+pub record BeforeTerm (n : ℕ) (s cells : List ℕ) (c : Cursor) (m : Met) (w : Waiting) : Type 0 where
   pub small : n < constructors
   pub long : length s + 2 ≤ length cells
   pub few : m .nodes ≤ c .at + 1
-  pub stacked : Stacked cells (c .at) w
+  pub stacked : GoalsStacked cells (c .at) w
 
 -- the next goal is this one
 pub record Tops (cells : List ℕ) (top goal : ℕ) : Type 0 where
@@ -299,15 +299,15 @@ descent Out-turn = Out
 descent (To-turn c m w) = To c m
 
 -- what waits then
-abbrev pub left : Turn → List ℕ → List Goal
+abbrev pub left : Turn → List ℕ → List ToRead
 left Out-turn cells = []
 left (To-turn c m w) cells = waiting (drop (w .top) cells)
 
 -- x before the goals gs becomes y before the goals hs: where y leads then, x leads
-pub record Follows (n : ℕ) (s : List ℕ) (gs : List Goal) (x : Descent) (build : List ℕ) (hs : List Goal) (y : Descent) (build' : List ℕ) : Type 0 where
+pub record Follows (n : ℕ) (s : List ℕ) (gs : List ToRead) (x : Descent) (build : List ℕ) (hs : List ToRead) (y : Descent) (build' : List ℕ) : Type 0 where
   pub then-on : (z : Descent) (end : List ℕ) → Leads n s hs y build' z end → Leads n s gs x build z end
 
 -- what a turn owes
-pub record Advances (n : ℕ) (s : List ℕ) (gs : List Goal) (c : Cursor) (m : Met) (build : List ℕ) (y : Turn) (build' cells' : List ℕ) : Type 0 where
+pub record Advances (n : ℕ) (s : List ℕ) (gs : List ToRead) (c : Cursor) (m : Met) (build : List ℕ) (y : Turn) (build' cells' : List ℕ) : Type 0 where
   pub follows : Follows n s gs (To c m) build (left y cells') (descent y) build'
-  pub ahead : (c' : Cursor) (m' : Met) (w' : Waiting) → y ≡ To-turn c' m' w' → Beyond s (c .at + 1) (c' .at) (m' .nodes) × Stacked cells' (c' .at) w'
+  pub ahead : (c' : Cursor) (m' : Met) (w' : Waiting) → y ≡ To-turn c' m' w' → Beyond s (c .at + 1) (c' .at) (m' .nodes) × GoalsStacked cells' (c' .at) w'

@@ -5,7 +5,7 @@ ghost use Prim.Native.Nat.{ℕ, _+_, _^_, _<_, _≤_};
 ghost use lib.ListN.{length, drop};
 ghost use Rattle.reading.specs.declared.parse.Descent.the-variants.{To};
 ghost use Rattle.reading.specs.Reading.{Parses, parsedValues};
-ghost use Rattle.reading.specs.Descent.{Noted, Heads, Ready, Stands, Tops, passed, Beyond, Ahead, Follows, Advances, Descends, number, bracket, one-term, members, waiting};
+ghost use Rattle.reading.specs.Descent.{Noted, Heads, BeforeTerm, BeforeGoal, Tops, passed, Beyond, Ahead, Follows, Advances, Descends, number, bracket, one-term, members, waiting};
 use crate::Parsed;
 use crate::goals::CLOSE;
 use crate::goals::MEMBERS;
@@ -143,7 +143,7 @@ fn begun(
     build: &mut [u16],
     goals: &mut [u8],
 ) -> Turn
-    requires { ⌜ Ready limit (now s) (now goals) c m w ⌝ }
+    requires { ⌜ BeforeTerm limit (now s) (now goals) c m w ⌝ }
     ensures { λ r. ⌜ Advances limit (now (s .entry)) (one-term (w .binders) ∷ waiting (drop (w .top) (now (goals .entry)))) c m (now (build .entry)) r (now (build .exit)) (now (goals .exit)) ⌝ }
 {
     let Tag::Is(tag, next) = tag_at(s, c) else {
@@ -165,7 +165,7 @@ fn member(
     build: &mut [u16],
     goals: &mut [u8],
 ) -> Turn
-    requires { ⌜ Stands limit (now s) (now goals) c m w ⌝ }
+    requires { ⌜ BeforeGoal limit (now s) (now goals) c m w ⌝ }
     requires { ⌜ Tops (now goals) (w .top) 1 ⌝ }
     ensures { λ r. ⌜ Advances limit (now (s .entry)) (waiting (drop (w .top) (now (goals .entry)))) c m (now (build .entry)) r (now (build .exit)) (now (goals .exit)) ⌝ }
 {
@@ -210,7 +210,7 @@ fn advance(
     build: &mut [u16],
     goals: &mut [u8],
 ) -> Turn
-    requires { ⌜ Stands limit (now s) (now goals) c m w ⌝ }
+    requires { ⌜ BeforeGoal limit (now s) (now goals) c m w ⌝ }
     requires { ⌜ w .top < length (now goals) ⌝ }
     ensures { λ r. ⌜ Advances limit (now (s .entry)) (waiting (drop (w .top) (now (goals .entry)))) c m (now (build .entry)) r (now (build .exit)) (now (goals .exit)) ⌝ }
 {

@@ -14,8 +14,8 @@ use Rattle.calculus.proofs.Substitutes.{impossible, either, or-left, or-right}
 use Rattle.table.specs.Nodes.{Stands, SomeTree, Ends}
 use Rattle.table.proofs.Trees.{see, ends-in, moved}
 use Rattle.unify.specs.Classes.{Goal, Lent}
-use Rattle.descent.specs.Descent.{identityOf, Occurs, variable, Respects, Joined}
-use Rattle.descent.specs.Meeting.{Threaded, Room, EndsKept, Fresh, Within, Meant, Linked, Met, clashed, TreesMeet, TreesMet, behind, apart}
+use Rattle.descent.specs.Descent.{identityOf, OfThread, variable, Respects, Joined}
+use Rattle.descent.specs.Meeting.{Threaded, LinksHold, EndsKept, Fresh, Within, Meant, Linked, Met, clashed, TreesMeet, TreesMet, behind, apart}
 use Rattle.descent.specs.declared.meet.Passed.{Passed}
 use Rattle.descent.specs.declared.meet.Passed.the-variants.{Apart, Behind}
 use Rattle.descent.proofs.Places.{identity-means, occurs, term-ends}
@@ -26,7 +26,7 @@ pub goal-threaded : {n : ℕ} {t : List ℕ} {goal : ℕ} → Goal n t goal → 
 goal-threaded g = record { thread = g .thread; worked = g .worked }
 
 -- the lent links, set up
-pub lent-room : {n : ℕ} {before after sizes : List ℕ} → Lent n before sizes → length after ≡ length before → Room n after
+pub lent-room : {n : ℕ} {before after sizes : List ℕ} → Lent n before sizes → length after ≡ length before → LinksHold n after
 lent-room l e = record { holds = rw e (l .links-hold); fits = l .numbers-fit }
 
 -- where the cell 0 is cleared no end is known
@@ -85,7 +85,7 @@ module _ {n : ℕ} {t : List ℕ} {goal : ℕ} (g : Goal n t goal) where
       fresh-respects τ = record { alike = λ i x y k m. absurd (omega (arith, f .alone i x m)) }
 
       -- the two values may meet
-      pub goal-meets : Room n links → TreesMeet n t links (goal + 1) b
+      pub goal-meets : LinksHold n links → TreesMeet n t links (goal + 1) b
       goal-meets r = record {
         threaded = goal-threaded g;
         room = r;
@@ -113,7 +113,7 @@ module _ {n : ℕ} {t : List ℕ} {goal : ℕ} (g : Goal n t goal) where
               moved = λ thread d x u s. either (uses x (g .left-value)) (uses x (g .right-value)) (own-variable x (l .linked (n + x) (free x) (variable x (there thread d x u) refl) s .0));
             }
           where
-            there : (thread : Tree term) → t ≡ preorder thread → (x : ℕ) → uses x thread ≡ true → Occurs n t x
+            there : (thread : Tree term) → t ≡ preorder thread → (x : ℕ) → uses x thread ≡ true → OfThread n t x
             there thread d x u = occurs (rw (preorder-injective thread (g .thread) (sym d ∙ g .worked .is)) (g .worked)) x u
 
         -- they have met, and the second of the nodes after them is the goal's end

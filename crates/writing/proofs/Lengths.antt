@@ -14,7 +14,7 @@ use Rattle.calculus.proofs.Preorders.{preorder-length}
 use Rattle.table.specs.Nodes.{NodeIs}
 use Rattle.table.proofs.Trees.{here-node, one-tree, ends-in}
 use Rattle.writing.specs.Writing.{CountedProgram, TextLength}
-use Rattle.writing.specs.Writer.{DigitCount, numbered, headBytes, nodeBytes, NodeBytes, spelt}
+use Rattle.writing.specs.Writer.{DigitCount, has-number, headBytes, nodeBytes, NodeBytes, spelt}
 use Rattle.writing.proofs.Written.{numeral-is, inner, bracketed, term-length, members-alt, members-empty, bracketed-length, text-is}
 
 -- A number.
@@ -42,7 +42,7 @@ other-kind zero d f g = absurd (f refl)
 other-kind (suc zero) d f g = absurd (g refl)
 other-kind (suc (suc k)) d f g = refl
 
-module _ (k n : ℕ) {r : Bool} (f : k ≡ 0 → ⊥) (g : k ≡ 1 → ⊥) (e : r ≡ getD numbered k false) where
+module _ (k n : ℕ) {r : Bool} (f : k ≡ 0 → ⊥) (g : k ≡ 1 → ⊥) (e : r ≡ getD has-number k false) where
   -- a node without a number is five bytes
   pub plain-bytes : r ≡ false → NodeBytes k n 5
   unfolding headBytes

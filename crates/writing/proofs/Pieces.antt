@@ -10,7 +10,7 @@ use Rattle.calculus.proofs.Preorders.{nodes-positive}
 use Rattle.table.specs.Nodes.{NodeIs, Stands}
 use Rattle.table.proofs.Trees.{IsAlt, alt-at, program-at, one-tree, in-table}
 use Rattle.writing.specs.Writing.{RoomForText, CellsForText, TextWritten}
-use Rattle.writing.specs.Writer.{headBytes, spelt, Room, Wrote, Pushed, Piece, a-term, a-rest, closing, cell, spelt-all, StandAll, cells-for, Stacked, ToCome, Unwritten, InHand, Asked, Put}
+use Rattle.writing.specs.Writer.{headBytes, spelt, BytesFit, Wrote, Pushed, Piece, a-term, a-rest, closing, cell, spelt-all, StandAll, cells-for, Stacked, ToCome, Unwritten, InHand, Asked, Put}
 use Rattle.writing.proofs.Written.{sets-append, wrote-none, wrote-more, bracketed-length, inner, TermNode, term-node, Parts, parts-at, members-alt, members-empty, text-is}
 
 -- The stack.
@@ -115,7 +115,7 @@ module _ {t last out stack : List ℕ} {at to cells : ℕ} where
 
 module _ {t out stack : List ℕ} {c at to cells : ℕ} (e : c ≡ 2) where
   -- there is room for it
-  pub closing-room : Asked c t at out to stack cells → Room out to (41 ∷ [])
+  pub closing-room : Asked c t at out to stack cells → BytesFit out to (41 ∷ [])
   closing-room a = let f = first-closing e (a .in-hand) in record { fits = omega arith }
 
   -- it is written
@@ -145,7 +145,7 @@ module _ {t out stack : List ℕ} {c at to cells : ℕ} (u : c ≡ 0 → ⊥) (v
       ended f = program-at (f .rest) 0 (sym (n .kind-is) ∙ z) (f .to-come .stand .0)
 
       -- for which there is room
-      pub end-room : Asked c t at out to stack cells → Room out to (41 ∷ [])
+      pub end-room : Asked c t at out to stack cells → BytesFit out to (41 ∷ [])
       end-room a =
           let f = first-rest u v (a .in-hand) in
           let w = simp length-append at (f .to-come .room .fits) in
@@ -231,7 +231,7 @@ module _ {t out stack : List ℕ} {at to cells : ℕ} where
     kind-asked a = node-of (first-term refl (a .in-hand)) .small
 
     -- there is room for what it begins with
-    pub head-asked : Asked 0 t at out to stack cells → Room out to (headBytes k m)
+    pub head-asked : Asked 0 t at out to stack cells → BytesFit out to (headBytes k m)
     head-asked a = let f = first-term refl (a .in-hand) in record { fits = omega (arith, term-bytes f, node-of f .lengths) }
 
     -- and for a cell
@@ -256,7 +256,7 @@ module _ {t out stack : List ℕ} {at to cells : ℕ} where
 
     module _ {mid : List ℕ} {byte : ℕ} (w : Wrote out mid to byte (headBytes k m)) where
       -- behind it there is room for a byte
-      pub bracket-room : (b : ℕ) → Asked 0 t at out to stack cells → Room mid byte (b ∷ [])
+      pub bracket-room : (b : ℕ) → Asked 0 t at out to stack cells → BytesFit mid byte (b ∷ [])
       bracket-room b a = let f = first-term refl (a .in-hand) in record { fits = omega (arith, term-bytes f, node-of f .lengths) }
 
       -- a kind without parts: with the closing bracket all is written
@@ -339,7 +339,7 @@ pub record TextLeft (t start : List ℕ) (from : ℕ) (out : List ℕ) (size : �
 
 module _ {t out : List ℕ} (r : RoomForText t out) where
   -- there is room for the opening bracket
-  pub opening-room : Room out 0 (40 ∷ [])
+  pub opening-room : BytesFit out 0 (40 ∷ [])
   opening-room = let p = r .program-there in record { fits = omega (arith, ap length (text-is p), bracketed-length p) }
 
   module _ {stack : List ℕ} (g : CellsForText t stack) where

@@ -13,7 +13,7 @@ use Rattle.calculus.proofs.Decimals.{by-tenths, decimal-small, decimal-large, d
 use Rattle.calculus.proofs.Preorders.{nodes-positive}
 use Rattle.table.specs.Nodes.{NodeIs, Stands}
 use Rattle.table.proofs.Trees.{kindOf, numberOf, Seen, see}
-use Rattle.writing.specs.Writer.{DigitCount, tagBytes, numeral, numeralIf, numbered, tags, headBytes, spelt, Room, Wrote}
+use Rattle.writing.specs.Writer.{DigitCount, tagBytes, numeral, numeralIf, has-number, tags, headBytes, spelt, BytesFit, Wrote}
 use Rattle.table.proofs.Sets.{sets-append as one-after}
 
 -- Stores.
@@ -73,17 +73,17 @@ pub record DigitsLeft (start out : List ℕ) (n d b left i : ℕ) : Type 0 where
   pub same : length out ≡ length start
   pub fits : b + d ≤ length start
 
-module _ {out : List ℕ} {n d to : ℕ} (small : n < 65536) (count : DigitCount n d) (room : Room out to (numeral n)) where
+module _ {out : List ℕ} {n d to : ℕ} (small : n < 65536) (count : DigitCount n d) (room : BytesFit out to (numeral n)) where
   all-fits : to + (2 + d) ≤ length out
   all-fits = omega (arith, ap length (numeral-is n small))
 
   -- there is room for the digit that says its length
-  pub length-room : (x : ℕ) → Room out to (x ∷ [])
+  pub length-room : (x : ℕ) → BytesFit out to (x ∷ [])
   length-room x = record { fits = omega (arith, all-fits) }
 
   module _ {first : List ℕ} {a x : ℕ} (f : Wrote out first to a (x ∷ [])) where
     -- and for the colon
-    pub colon-room : Room first a (58 ∷ [])
+    pub colon-room : BytesFit first a (58 ∷ [])
     colon-room = record { fits = omega (arith, all-fits) }
 
     -- before the last digit all are left
@@ -127,17 +127,17 @@ pub tag-wrote : {l₀ l₁ l₂ l₃ l₄ : List ℕ} {tag to a b c next : ℕ} 
 tag-wrote u v w x = wrote-more u (wrote-more v (wrote-more w x))
 
 -- a head begins with a tag
-pub tag-room : (k n tag : ℕ) {out : List ℕ} {to : ℕ} → Room out to (headBytes k n) → Room out to (tagBytes tag)
+pub tag-room : (k n tag : ℕ) {out : List ℕ} {to : ℕ} → BytesFit out to (headBytes k n) → BytesFit out to (tagBytes tag)
 unfolding headBytes
 tag-room k n tag h = record { fits = omega arith }
 
-module _ (k n : ℕ) {r : Bool} (e : r ≡ getD numbered k false) where
+module _ (k n : ℕ) {r : Bool} (e : r ≡ getD has-number k false) where
   head-is : headBytes k n ≡ tagBytes (getD tags k 0) ++ numeralIf r n
   unfolding headBytes
   head-is = rw e
 
   -- behind the tag there is room for the number, where the kind has one
-  pub number-room : {out mid : List ℕ} {to byte tag : ℕ} → Wrote out mid to byte (tagBytes tag) → r ≡ true → Room out to (headBytes k n) → Room mid byte (numeral n)
+  pub number-room : {out mid : List ℕ} {to byte tag : ℕ} → Wrote out mid to byte (tagBytes tag) → r ≡ true → BytesFit out to (headBytes k n) → BytesFit mid byte (numeral n)
   number-room w t h = record { fits = omega (arith, rw t at (ap length head-is)) }
 
   module _ {out mid : List ℕ} {to byte : ℕ} (w : Wrote out mid to byte (tagBytes (getD tags k 0))) where

@@ -16,8 +16,8 @@ pub record DigitCount (n r : ℕ) : Type 0 where
   pub few : r ≤ 5
 
 -- the kinds with a number: bound and free variable, constructor, allocated abstraction
-abbrev pub numbered : List Bool
-numbered = false ∷ false ∷ true ∷ true ∷ true ∷ false ∷ true ∷ []
+abbrev pub has-number : List Bool
+has-number = false ∷ false ∷ true ∷ true ∷ true ∷ false ∷ true ∷ []
 
 -- the tag of each kind
 abbrev pub tags : List ℕ
@@ -38,7 +38,7 @@ numeralIf false n = []
 
 -- what a term begins with: bracket, tag, number
 unfoldable pub headBytes : ℕ → ℕ → List ℕ
-headBytes k n = tagBytes (getD tags k 0) ++ numeralIf (getD numbered k false) n
+headBytes k n = tagBytes (getD tags k 0) ++ numeralIf (getD has-number k false) n
 
 -- the bytes that a node adds to its program's text: two brackets with the empty program, a term's closing bracket with its opening one
 abbrev pub nodeBytes : ℕ → ℕ → ℕ
@@ -54,7 +54,7 @@ unfolding bytes encode raw
 spelt x = bytes (encode (raw x))
 
 -- so many bytes fit behind the place
-pub record Room (out : List ℕ) (to : ℕ) (b : List ℕ) : Type 0 where
+pub record BytesFit (out : List ℕ) (to : ℕ) (b : List ℕ) : Type 0 where
   pub fits : to + length b ≤ length out
 
 -- the bytes stand there, the rest is as it was, and the next byte is the one behind them
@@ -111,7 +111,7 @@ Stacked stack cells (x ∷ l) = (below : ℕ) × ((cells ≡ below + 1) × ((get
 -- the pieces are still to be written, with room for them, and then the output is the one at last
 pub record ToCome (t last : List ℕ) (at : ℕ) (out : List ℕ) (to : ℕ) (stack : List ℕ) (l : List Piece) : Type 0 where
   pub stand : StandAll t at l
-  pub room : Room out to (spelt-all l)
+  pub room : BytesFit out to (spelt-all l)
   pub makes : sets out to (spelt-all l) ≡ last
   pub enough : cells-for l ≤ length stack
 

@@ -5,7 +5,7 @@ ghost use mathlib.Core.List.{[], _∷_};
 ghost use Prim.Native.Nat.{_<_};
 ghost use lib.ListN.{length, getD};
 ghost use Rattle.writing.specs.Writing.{CountedProgram, TextLength, RoomForText, CellsForText, TextWritten};
-ghost use Rattle.writing.specs.Writer.{DigitCount, numbered, NodeBytes, tagBytes, numeral, headBytes, Room, Wrote, Pushed, Asked, Put};
+ghost use Rattle.writing.specs.Writer.{DigitCount, has-number, NodeBytes, tagBytes, numeral, headBytes, BytesFit, Wrote, Pushed, Asked, Put};
 use table::kinds::ABSTRACTION;
 use table::kinds::ALTERNATIVE;
 use table::kinds::APPLICATION;
@@ -34,7 +34,7 @@ fn digits(n: u16) -> usize
 const NUMBERED: [bool; 7] = [false, false, true, true, true, false, true];
 
 fn has_number(kind: u16) -> bool
-    ensures { λ r. ⌜ r ≡ getD numbered kind false ⌝ }
+    ensures { λ r. ⌜ r ≡ getD has-number kind false ⌝ }
 {
     if kind < APPLICATION {
         NUMBERED[kind as usize]
@@ -84,7 +84,7 @@ pub struct Progress {
 
 // One byte.
 pub fn put(out: &mut [u8], to: usize, b: u8) -> usize
-    requires { ⌜ Room (now out) to (b ∷ []) ⌝ }
+    requires { ⌜ BytesFit (now out) to (b ∷ []) ⌝ }
     ensures { λ r. ⌜ Wrote (now (out .entry)) (now (out .exit)) to r (b ∷ []) ⌝ }
 {
     out[to] = b;
@@ -93,7 +93,7 @@ pub fn put(out: &mut [u8], to: usize, b: u8) -> usize
 
 // An opening bracket and a tag.
 fn put_tag(out: &mut [u8], to: usize, tag: u8) -> usize
-    requires { ⌜ Room (now out) to (tagBytes tag) ⌝ }
+    requires { ⌜ BytesFit (now out) to (tagBytes tag) ⌝ }
     ensures { λ r. ⌜ Wrote (now (out .entry)) (now (out .exit)) to r (tagBytes tag) ⌝ }
 {
     let a = put(out, to, b'(');
@@ -104,7 +104,7 @@ fn put_tag(out: &mut [u8], to: usize, tag: u8) -> usize
 
 // A number as an N: its length of one digit, a colon, its digits from the last to the first.
 pub fn put_number(out: &mut [u8], to: usize, n: u16) -> usize
-    requires { ⌜ Room (now out) to (numeral n) ⌝ }
+    requires { ⌜ BytesFit (now out) to (numeral n) ⌝ }
     ensures { λ r. ⌜ Wrote (now (out .entry)) (now (out .exit)) to r (numeral n) ⌝ }
 {
     let d = digits(n);
@@ -126,7 +126,7 @@ const TAGS: [u8; 11] = [0, 0, b'v', b'x', b'c', b'l', b'L', b'a', b'n', b'g', b'
 // What a term of the kind begins with: bracket, tag and, where it has one, its number.
 fn put_head(out: &mut [u8], to: usize, kind: u16, number: u16) -> usize
     requires { ⌜ kind < 11 ⌝ }
-    requires { ⌜ Room (now out) to (headBytes kind number) ⌝ }
+    requires { ⌜ BytesFit (now out) to (headBytes kind number) ⌝ }
     ensures { λ r. ⌜ Wrote (now (out .entry)) (now (out .exit)) to r (headBytes kind number) ⌝ }
 {
     let byte = put_tag(out, to, TAGS[kind as usize]);
