@@ -14,17 +14,17 @@ use Rattle.calculus.specs.Redex.{plug, own, redexes}
 use Rattle.calculus.specs.Step.{least-from, variable-for, rewriting, first, step-thread, step}
 use Rattle.calculus.specs.Good.{InRange, Closed, Holds, All, Good}
 use Rattle.calculus.specs.Run.{End, size, later, next-program, run}
-use Rattle.calculus.specs.Sexp.{one, digits, decimal, Sexp, bytes}
+use Rattle.calculus.specs.Sexp.{digits, decimal, bytes}
 use Rattle.calculus.specs.Text.{encode, raw, raw-text, text}
 use Rattle.calculus.specs.Known.{ascii, only}
 use Rattle.calculus.specs.Report.{report, Reports, reported, refused}
 use Rattle.calculus.proofs.Preorders.{threads-of-program}
-use Rattle.calculus.proofs.Bytes.{first-byte}
 use Rattle.calculus.proofs.Machines.{run-ended, run-goes, run-large, run-returns}
 use Rattle.calculus.proofs.Exclusions.{self-application, self-application-returns}
 use Rattle.calculus.proofs.Ends.{report-example, refusal-example}
 use Rattle.promises.proofs.Admitted.{good-read}
 use Rattle.promises.proofs.Refused.{reads-exactly}
+use Rattle.promises.proofs.Boundaries.{not-empty}
 use Rattle.mespindro.specs.Limit.{limit}
 use Rattle.promises.proofs.Excluded.{closures, OneAtMost, one-good}
 use Rattle.leaf.specs.Reported.{most}
@@ -171,10 +171,6 @@ example-text = refl
 -- "Input `((1:n(1:g(1:u(1:v1:0)(1:c1:1))(1:v1:0))))` (41 bytes) gives `(5:ended1:3((1:c1:1)))`"
 pub example-reports : Reports limit most (ascii "((1:n(1:g(1:u(1:v1:0)(1:c1:1))(1:v1:0))))") (ascii "(5:ended1:3((1:c1:1)))")
 example-reports = rw (← example-text) (run-reports example example-good refl report-example)
-
--- no expression has no bytes
-not-empty : (s : Sexp one) → bytes s ≡ [] → ⊥
-not-empty s e = first-byte s 41 (41 ∷ []) [] (omega arith) (omega arith) (rw e)
 
 -- "empty input gives `(7:refused1:3)`"
 pub empty-reports : Reports limit most [] (ascii "(7:refused1:3)")

@@ -212,7 +212,7 @@ no-such-program (list nothing) q e = let z : _≡_ {A = ℕ} 41 40 = cc in omega
 no-such-program (list (more s m)) q e = no-such-list s (bytes m ++ (41 ∷ [])) q (simp append-assoc at (tail-eq-of-cons-eq e))
 
 -- no expression has no bytes
-not-empty : (s : Sexp one) → bytes s ≡ [] → ⊥
+pub not-empty : (s : Sexp one) → bytes s ≡ [] → ⊥
 not-empty s e = first-byte s 41 (41 ∷ []) [] (omega arith) (omega arith) (rw e)
 
 -- a program's text is no atom's
