@@ -1,6 +1,6 @@
 -- The two values of a goal, met on fresh links: what solves the goal is what respects the links, or nothing does. For the proof of `solve`.
 use mathlib.Core.Path.{_≡_, refl, sym, _∙_}
-use mathlib.Core.Bool.{Bool, true, _||_}
+use mathlib.Core.Bool.{Bool, true, false, _||_}
 use mathlib.Core.List.{List}
 use Prim.Native.Nat.{ℕ, _+_, _*_, _≤_, _<_}
 use native.Mathlib.Omega.{arith}
@@ -15,10 +15,8 @@ use Rattle.table.specs.Nodes.{Stands, SomeTree, Ends}
 use Rattle.table.proofs.Trees.{see, ends-in, moved}
 use Rattle.unify.specs.Classes.{Goal, Lent}
 use Rattle.descent.specs.Descent.{identityOf, OfThread, variable, Respects, Joined}
-use Rattle.descent.specs.Meeting.{Threaded, LinksHold, EndsKept, Fresh, Within, Meant, Linked, Met, clashed, TreesMeet, TreesMet, behind, apart}
-use Rattle.descent.specs.declared.meet.Passed.{Passed}
-use Rattle.descent.specs.declared.meet.Passed.the-variants.{Apart, Behind}
-use Rattle.descent.proofs.Places.{identity-means, occurs, term-ends}
+use Rattle.descent.specs.Meeting.{Threaded, LinksHold, EndsKept, Fresh, Within, Meant, Linked, Meets, Met, clashed}
+use Rattle.descent.proofs.Places.{identity-means, occurs}
 use Rattle.descent.proofs.Descents.{sane, class-solves, merged-of}
 
 -- the goal's thread
@@ -67,13 +65,12 @@ module _ {n : ℕ} {t : List ℕ} {goal : ℕ} (g : Goal n t goal) where
     right-stands : Stands t b (g .right-value)
     right-stands = moved (sym (h .ends (g .left-value) (stand .0))) (stand .1)
 
+    -- and the right value there
+    pub goal-right : SomeTree t b
+    goal-right = record { sort = term; tree = g .right-value; stands = right-stands }
+
     second : Meant vs n t (identityOf n t b)
     second = record { tree = g .right-value; means = identity-means (g .worked) (g .right-value) right-stands; within = second-within }
-
-    -- the goal ends where its right value does
-    goal-end : {e : ℕ} → Ends t b e → Ends t goal e
-    unfolding nodes
-    goal-end k = term-ends (g .stands) (omega (arith, h .ends (g .left-value) (stand .0), k .ends (g .right-value) right-stands))
 
     -- fresh links
     module _ {links : List ℕ} (f : Fresh n t links) where
@@ -85,24 +82,15 @@ module _ {n : ℕ} {t : List ℕ} {goal : ℕ} (g : Goal n t goal) where
       fresh-respects τ = record { alike = λ i x y k m. absurd (omega (arith, f .alone i x m)) }
 
       -- the two values may meet
-      pub goal-meets : LinksHold n links → TreesMeet n t links (goal + 1) b
-      goal-meets r = record {
-        threaded = goal-threaded g;
-        room = r;
-        variables = vs;
-        linked = fresh-linked;
-        first = g .left-value;
-        second = g .right-value;
-        first-stands = stand .0;
-        second-stands = right-stands;
-        first-within = first-within;
-        second-within = second-within;
-      }
+      pub goal-meets : LinksHold n links → Meets n t links (identityOf n t (goal + 1)) (identityOf n t b)
+      unfolding first second
+      goal-meets r = record { threaded = goal-threaded g; room = r; variables = vs; linked = fresh-linked; first = first; second = second }
 
       module _ {after : List ℕ} where
-        met-joined : Met n t links after (identityOf n t (goal + 1)) (identityOf n t b) true → Joined n t after (g .left-value) (g .right-value)
+        -- they have met
+        pub goal-joined : Met n t links after (identityOf n t (goal + 1)) (identityOf n t b) true → Joined n t after (g .left-value) (g .right-value)
         unfolding first second
-        met-joined m =
+        goal-joined m =
             let k = merged-of m in
             let l = k .linked vs fresh-linked first second in
             record {
@@ -116,13 +104,7 @@ module _ {n : ℕ} {t : List ℕ} {goal : ℕ} (g : Goal n t goal) where
             there : (thread : Tree term) → t ≡ preorder thread → (x : ℕ) → uses x thread ≡ true → OfThread n t x
             there thread d x u = occurs (rw (preorder-injective thread (g .thread) (sym d ∙ g .worked .is)) (g .worked)) x u
 
-        -- they have met, and the second of the nodes after them is the goal's end
-        pub goal-joined : {r : Passed} {i j : ℕ} → TreesMet n t links after (goal + 1) b r → r ≡ Behind i j → Joined n t after (g .left-value) (g .right-value) × Ends t goal j
-        goal-joined {j = j} (behind {j = o} m p q) e = let k : o ≡ j = cc in (met-joined m, rw k at (goal-end q))
-        goal-joined (apart m) e = impossible (cc)
-
         -- they clash: nothing solves the goal
-        pub goal-clash : {r : Passed} → TreesMet n t links after (goal + 1) b r → r ≡ Apart → (τ : Substitution) → Solves τ (g .left-value) (g .right-value) → ⊥
+        pub goal-clash : Met n t links after (identityOf n t (goal + 1)) (identityOf n t b) false → (τ : Substitution) → Solves τ (g .left-value) (g .right-value) → ⊥
         unfolding first second
-        goal-clash (behind m p q) e τ s = impossible (cc)
-        goal-clash (apart (clashed k)) e τ s = k τ (g .left-value) (g .right-value) (first .means) (second .means) (fresh-respects τ) s
+        goal-clash (clashed k) τ s = k τ (g .left-value) (g .right-value) (first .means) (second .means) (fresh-respects τ) s
