@@ -55,12 +55,12 @@ fn measure_all() -> Vec<Row> {
 
 // ---- The times.
 
-/// The least time of a call, over rounds for about a fifth of a second.
+/// The least time of a call, over rounds for about a second: other work of the machine makes single ones longer.
 fn least(mut prepare: impl FnMut(), mut call: impl FnMut(&mut dyn FnMut())) -> Duration {
     let begin = Instant::now();
     let mut best = Duration::MAX;
     let mut rounds = 0;
-    while rounds < 5 || begin.elapsed() < Duration::from_millis(200) {
+    while rounds < 5 || begin.elapsed() < Duration::from_secs(1) {
         prepare();
         let mut took = Duration::ZERO;
         let start = Instant::now();
