@@ -107,8 +107,8 @@ struct mespindro_count mespindro_read(const uint8_t *text, size_t text_length, u
 /* Writes the text of the program in a table. 24,576 bytes hold every text. Refuses 1, 6, 8, 9. */
 struct mespindro_count mespindro_write(const uint16_t *table, size_t table_length, size_t count, uint8_t *out, size_t out_length);
 
-/* One step. Refuses 1, 6, 7, 8, 9, 11. The stack of a step and of a run grows with nesting, to several hundred kilobytes on the deepest
- * programs of 2,048 nodes (docs/LIMITS.md); shorter tables bound it. */
+/* One step. Refuses 1, 6, 7, 8, 9, 11. The stack of a step and of a run grows with nesting, to some 190 kilobytes on the deepest
+ * programs of 2,048 nodes that were tried (docs/LIMITS.md); shorter tables bound it. */
 struct mespindro_count mespindro_step(const uint16_t *table, size_t table_length, size_t count, uint16_t *out, size_t out_length);
 
 /* Runs the program in a table for at most `most` steps. Its room is the least of table_length / 2, work_length / 2 and 2,048 nodes. Accepted,
