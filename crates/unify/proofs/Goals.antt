@@ -10,7 +10,7 @@ use borrow.Author.Tests.{eq-eqb}
 use Rattle.calculus.specs.Tree.{term, unif, Tree, free, two, nodes, preorder, uses}
 use Rattle.calculus.specs.Unifier.{Substitution, Solves}
 use Rattle.calculus.proofs.Preorders.{preorder-injective}
-use Rattle.calculus.proofs.Substitutes.{impossible, either, or-left, or-right}
+use Rattle.calculus.proofs.Substitutes.{either, or-left, or-right}
 use Rattle.table.specs.Nodes.{Stands, SomeTree, Ends}
 use Rattle.table.proofs.Trees.{see, ends-in, moved}
 use Rattle.unify.specs.Classes.{Goal, Lent}
