@@ -52,7 +52,7 @@ static unsigned plain(uint16_t constructor, unsigned base) {
     return constructor >= base && constructor < base + RANGE ? constructor - base : constructor;
 }
 
-/* Is it (a (a (a PLACEMENT tenant) port) vlan), of constructors alone? Prints it then. */
+/* Is it (a (a (a PLACEMENT tenant) port) vlan)? Prints it then. */
 static int print_placement(const uint16_t *nodes, size_t length) {
     static const uint16_t kinds[PLACEMENT_NODES] = {
         MESPINDRO_APPLICATION, MESPINDRO_APPLICATION, MESPINDRO_APPLICATION, MESPINDRO_CONSTRUCTOR,
@@ -66,13 +66,14 @@ static int print_placement(const uint16_t *nodes, size_t length) {
     return 1;
 }
 
-/* An answer alone is no placement yet: it may hold a free variable, a port that was never decided. */
+/* An answer is built of constructors alone: what is left to ask is whether it has a placement's shape. */
 static int print_thread(size_t k, uint16_t standing, struct mespindro_part part) {
     switch (standing) {
     case MESPINDRO_ANSWER:
         if (print_placement(table + part.start, part.length)) return 1;
-        printf("thread %zu: an answer, but no placement of known tenant, port and VLAN\n", k);
+        printf("thread %zu: an answer, but no placement of tenant, port and VLAN\n", k);
         return 0;
+    case MESPINDRO_PARTIAL: printf("thread %zu: partial, a part of it is still unknown\n", k); return 0;
     case MESPINDRO_STUCK: printf("thread %zu: stuck, no rule applies\n", k); return 0;
     default: printf("thread %zu: open, there was more to do\n", k); return 0;
     }

@@ -72,9 +72,10 @@ enum {
 
 /* How a thread stands; 0 where the call was refused. */
 enum {
-    MESPINDRO_ANSWER = 1, /* a value, of any shape: look for kinds 3 and 6, and for the shape you expect, before you use it */
+    MESPINDRO_ANSWER = 1, /* built of constructors alone (kinds 4 and 7): compare it with the shape you expect, and use it */
     MESPINDRO_STUCK = 2,  /* no rule applies, and it is no value */
-    MESPINDRO_OPEN = 3    /* there is a step to make */
+    MESPINDRO_OPEN = 3,   /* there is a step to make */
+    MESPINDRO_PARTIAL = 4 /* a value that holds a free variable (kind 3) or an allocated abstraction (kind 6): not to be used */
 };
 
 /* How many nodes or bytes the call has put at the front of its output; what stood behind them is left as it was. */

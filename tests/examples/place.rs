@@ -51,7 +51,7 @@ fn plain(constructor: u16, base: u16) -> u16 {
     }
 }
 
-/// Tenant, port and VLAN of (a (a (a PLACEMENT tenant) port) vlan), if the thread is that, of constructors alone.
+/// Tenant, port and VLAN of (a (a (a PLACEMENT tenant) port) vlan), if the thread is that.
 fn placement(nodes: &[u16]) -> Option<(u16, u16, u16)> {
     const A: u16 = APPLICATION;
     const C: u16 = CONSTRUCTOR;
@@ -63,7 +63,7 @@ fn placement(nodes: &[u16]) -> Option<(u16, u16, u16)> {
     }
 }
 
-/// An answer alone is no placement yet: it may hold a free variable, a port that was never decided.
+/// An answer is built of constructors alone: what is left to ask is whether it has a placement's shape.
 fn print_thread(k: usize, standing: Standing, nodes: &[u16]) -> bool {
     match (standing, placement(nodes)) {
         (Standing::Answer, Some((tenant, port, vlan))) => {
@@ -71,8 +71,9 @@ fn print_thread(k: usize, standing: Standing, nodes: &[u16]) -> bool {
             return true;
         }
         (Standing::Answer, None) => {
-            println!("thread {k}: an answer, but no placement of known tenant, port and VLAN")
+            println!("thread {k}: an answer, but no placement of tenant, port and VLAN")
         }
+        (Standing::Partial, _) => println!("thread {k}: partial, a part of it is still unknown"),
         (Standing::Stuck, _) => println!("thread {k}: stuck, no rule applies"),
         (Standing::Open, _) => println!("thread {k}: open, there was more to do"),
     }

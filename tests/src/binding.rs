@@ -54,9 +54,14 @@ pub enum Reason {
 /// How a thread stands.
 #[derive(Clone, Copy, Debug, PartialEq, Eq, Hash)]
 pub enum Standing {
+    /// Built of constructors alone.
     Answer,
+    /// No rule applies, and it is no value.
     Stuck,
+    /// There is a step to make.
     Open,
+    /// A value that holds a free variable or an allocated abstraction.
+    Partial,
 }
 
 /// What an accepted run answers.
@@ -114,6 +119,7 @@ pub fn standing(table: &[u16], count: usize, k: usize) -> Result<Standing, Refus
         1 => Ok(Standing::Answer),
         2 => Ok(Standing::Stuck),
         3 => Ok(Standing::Open),
+        4 => Ok(Standing::Partial),
         other => panic!("a thread has standing {other}"),
     }
 }

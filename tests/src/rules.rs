@@ -1,8 +1,9 @@
 //! Rule sets in files: readable or canonical; running one by the library and describing its end.
 
 use crate::binding::{self, Reason, Refusal, Standing, Stop};
-use crate::evaluator::tree::free_variables;
+use crate::evaluator::tree::{free_variables, locations};
 use crate::notation::{self, Error, Names, Term};
+use std::collections::BTreeSet;
 
 /// As many steps as the program on standard input makes.
 pub const STEPS: u32 = 10_000;
@@ -56,7 +57,7 @@ pub fn run(text: &[u8], steps: u32) -> Result<End, Refusal> {
     })
 }
 
-/// The end in words: reason, steps and nodes, then each thread with its standing and the variables it leaves free.
+/// The end in words: reason, steps and nodes, then each thread with its standing and what it leaves open.
 pub fn describe(end: &End, names: &Names) -> String {
     let reason = match end.stop.reason {
         Reason::Ended => "ended",
@@ -66,25 +67,37 @@ pub fn describe(end: &End, names: &Names) -> String {
     let Stop { steps, nodes, .. } = end.stop;
     let mut out = format!("{reason}, {steps} steps, {nodes} nodes\n");
     for (k, (standing, term)) in end.threads.iter().enumerate() {
-        let standing = match standing {
+        let word = match standing {
             Standing::Answer => "answer",
             Standing::Stuck => "stuck",
             Standing::Open => "open",
+            Standing::Partial => "partial",
         };
-        out += &format!("thread {k}: {standing}{}\n", left_free(term));
+        out += &format!("thread {k}: {word}{}\n", left(*standing, term));
         out += &notation::show(term, names, 2);
         out.push('\n');
     }
     out
 }
 
-fn left_free(term: &Term) -> String {
-    let list: Vec<String> = free_variables(term)
-        .iter()
-        .map(|x| format!("x{x}"))
-        .collect();
-    match list.is_empty() {
+/// The variables that a thread leaves free, and the closures that a partial one leaves in the place of a plain value.
+fn left(standing: Standing, term: &Term) -> String {
+    let variables = listed('x', &free_variables(term), "left free");
+    let closures = match standing {
+        Standing::Partial => listed('L', &locations(term), "left a rule"),
+        _ => None,
+    };
+    let left: Vec<String> = variables.into_iter().chain(closures).collect();
+    match left.is_empty() {
         true => String::new(),
-        false => format!(", with {} left free", list.join(", ")),
+        false => format!(", with {}", left.join(" and ")),
+    }
+}
+
+fn listed(letter: char, numbers: &BTreeSet<u16>, how: &str) -> Option<String> {
+    let names: Vec<String> = numbers.iter().map(|n| format!("{letter}{n}")).collect();
+    match names.is_empty() {
+        true => None,
+        false => Some(format!("{} {how}", names.join(", "))),
     }
 }

@@ -84,6 +84,7 @@ fn standing(word: &str) -> Standing {
         "answer" => Standing::Answer,
         "stuck" => Standing::Stuck,
         "open" => Standing::Open,
+        "partial" => Standing::Partial,
         other => panic!("no standing is {other}"),
     }
 }

@@ -41,9 +41,6 @@ fn cases() -> Vec<(&'static str, String, i32)> {
         let vlan = if port <= 40 { 102 } else { 103 };
         leaf += &format!("tenant 2 -> port {port}, VLAN {vlan}\n");
     }
-    let undecided = "an answer, but no placement of known tenant, port and VLAN";
-    let own_port = format!("thread 0: {undecided}");
-    let no_port = format!("thread 2: {undecided}");
     let two = [
         "tenant 1 -> port 11, VLAN 101",
         "tenant 2 -> port 12, VLAN 102",
@@ -55,17 +52,17 @@ fn cases() -> Vec<(&'static str, String, i32)> {
     let standing = [
         "tenant 1 -> port 1, VLAN 101",
         "thread 1: stuck, no rule applies",
-        &no_port,
+        "thread 2: partial, a part of it is still unknown",
+    ];
+    let accident = [
+        "thread 0: partial, a part of it is still unknown",
+        "tenant 3 -> port 9, VLAN 103",
     ];
     let refused = "read refused, 3: the text is not one canonical S-expression";
     vec![
         ("two-tenants.csexp", lines(&two), 0),
         ("leaf-48.csexp", leaf, 0),
-        (
-            "accident.csexp",
-            lines(&[&own_port, "tenant 3 -> port 9, VLAN 103"]),
-            1,
-        ),
+        ("accident.csexp", lines(&accident), 1),
         ("renewal.csexp", lines(&renewal), 1),
         ("standing.csexp", lines(&standing), 1),
         ("two-tenants.rules", lines(&[refused]), 1),

@@ -11,7 +11,7 @@ use Rattle.calculus.specs.declared.Refusal.the-variants.{NoProgram, TooL
 use Rattle.calculus.specs.declared.Reason.{Reason}
 use Rattle.calculus.specs.declared.Reason.the-variants.{Ended, Steps, Room}
 use Rattle.calculus.specs.declared.Standing.{Standing}
-use Rattle.calculus.specs.declared.Standing.the-variants.{Answer, Stuck, Open}
+use Rattle.calculus.specs.declared.Standing.the-variants.{Answer, Stuck, Open, Partial}
 use Rattle.calculus.specs.declared.Counted.{Counted}
 use Rattle.calculus.specs.declared.Counted.the-variants as counted
 use Rattle.calculus.specs.declared.Stepped.{Stepped}
@@ -97,12 +97,13 @@ reason-bytes-injective = told-apart reasonBytes reason-of-bytes reason-of-atom
 
 -- the standing of a code
 abbrev standing-of : ℕ → Standing
-standing-of k = getD (Answer ∷ Answer ∷ Stuck ∷ Open ∷ []) k Answer
+standing-of k = getD (Answer ∷ Answer ∷ Stuck ∷ Open ∷ Partial ∷ []) k Answer
 
 standing-of-code : (s : Standing) → standing-of (standingCode s) ≡ s
 standing-of-code Answer = refl
 standing-of-code Stuck = refl
 standing-of-code Open = refl
+standing-of-code Partial = refl
 
 -- a code is that of one standing
 pub standing-injective : (s t : Standing) → standingCode s ≡ standingCode t → s ≡ t

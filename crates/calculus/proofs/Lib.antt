@@ -17,6 +17,7 @@ pub mod Textbook
 pub mod Binders
 pub mod Redexes
 pub mod Normals
+pub mod Wholes
 pub mod Steps
 pub mod Standings
 pub mod Preservation

@@ -7,7 +7,7 @@ use Rattle.calculus.specs.declared.Refusal.the-variants.{NoProgram, TooL
 use Rattle.calculus.specs.declared.Reason.{Reason}
 use Rattle.calculus.specs.declared.Reason.the-variants.{Ended, Steps, Room}
 use Rattle.calculus.specs.declared.Standing.{Standing}
-use Rattle.calculus.specs.declared.Standing.the-variants.{Answer, Stuck, Open}
+use Rattle.calculus.specs.declared.Standing.the-variants.{Answer, Stuck, Open, Partial}
 use Rattle.calculus.specs.declared.Counted.{Counted}
 use Rattle.calculus.specs.declared.Counted.the-variants as counted
 use Rattle.calculus.specs.declared.Stepped.{Stepped}
@@ -47,6 +47,7 @@ abbrev pub standingCode : Standing → ℕ
 standingCode Answer = 1
 standingCode Stuck = 2
 standingCode Open = 3
+standingCode Partial = 4
 
 -- What a call returns: document 01's refusal number, 0 where the call is accepted, and the values. A refusal has counts of 0.
 pub record Values : Type 0 where

@@ -5,6 +5,7 @@ pub mod Good
 pub mod Unifier
 pub mod Unify
 pub mod Redex
+pub mod Whole
 pub mod Reduction
 pub mod Normal
 pub mod Answers

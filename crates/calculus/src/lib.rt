@@ -31,11 +31,12 @@ pub enum Reason {
     Room,
 }
 
-// How a thread stands.
+// How a thread stands, in the order of the codes: `Partial` came with request 3.
 pub enum Standing {
     Answer,
     Stuck,
     Open,
+    Partial,
 }
 
 // What reading and writing answer: how many nodes or bytes stand at the front of the output.
@@ -101,5 +102,6 @@ pub fn standing_code(x: Standing) -> u16
         Standing::Answer => 1,
         Standing::Stuck => 2,
         Standing::Open => 3,
+        Standing::Partial => 4,
     }
 }

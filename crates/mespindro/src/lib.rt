@@ -62,7 +62,7 @@ pub fn standing(table: &[u16], count: usize, k: usize) -> Stood
     ensures { λ r. ⌜ StandsAt limit (now (table .entry)) count k (stoodValues r) ⌝ }
 {
     let mut scratch = [0u16; SCRATCH];
-    run::standing(table, count, k, LIMIT, &mut scratch)
+    standings::standing(table, count, k, LIMIT, &mut scratch)
 }
 
 // The part of the table that is a thread's own, no copy; empty exactly when the standing call refuses.

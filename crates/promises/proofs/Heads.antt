@@ -9,7 +9,9 @@ use lib.ListN.{length, take, drop, replicate, length-append, take-append-drop}
 use lib.Seq.{take-at, take-take}
 use Rattle.calculus.specs.Tree.{term, program, Tree, empty, alt, preorder, nodes, threads, program-of, head-numbers}
 use Rattle.calculus.specs.Good.{All, Good}
-use Rattle.calculus.specs.Step.{finished, answer, standing}
+use Rattle.calculus.specs.Value.{value}
+use Rattle.calculus.specs.Whole.{whole}
+use Rattle.calculus.specs.Step.{finished, standing}
 use Rattle.calculus.specs.Choice.{Quiet}
 use Rattle.calculus.specs.Run.{End, size, run, room-of, finished-head}
 use Rattle.calculus.specs.Answers.{standingCode, Values}
@@ -143,11 +145,12 @@ head-open (x ∷ before) t after h = go (finished x) refl (head-open before t af
 
 finished-code : (t : Tree term) → finished t ≡ true → SaysFinished (record { refusal = 0; values = standingCode (standing t) ∷ [] })
 unfolding standing
-finished-code t h = (refl, go (answer t) refl)
+finished-code t h = (refl, go (whole t) refl (value t) refl)
   where
-    go : (b : Bool) → answer t ≡ b → (standingCode (standing t) ∷ [] ≡ 1 ∷ []) ⊎ (standingCode (standing t) ∷ [] ≡ 2 ∷ [])
-    go true e = inl (rw (h, standing) (rw e))
-    go false e = inr (rw (h, standing) (rw e))
+    go : (a : Bool) → whole t ≡ a → (b : Bool) → value t ≡ b → (standingCode (standing t) ∷ [] ≡ 1 ∷ []) ⊎ ((standingCode (standing t) ∷ [] ≡ 4 ∷ []) ⊎ (standingCode (standing t) ∷ [] ≡ 2 ∷ []))
+    go true w b v = inl (rw (h, w, standing))
+    go false w true v = inr (inl (rw (h, w, v, standing)))
+    go false w false v = inr (inr (rw (h, w, v, standing)))
 
 -- the standing call accepts every thread of a good program
 pub stands-accepted : {n : ℕ} {table : List ℕ} {count : ℕ} {p : Tree program} (k : ℕ) → TableOf n table count p → Good n p → k < length (threads p) → Accepts (thread-refusals n table count k)
@@ -165,7 +168,7 @@ module _ {n : ℕ} {table : List ℕ} {count : ℕ} {work : List ℕ} {limit : �
       All Quiet (finished-head (threads e)) × ((rest : List (Tree term)) × ((threads e ≡ finished-head (threads e) ++ rest) × Movable rest))
   head-quiet r z e g = finished-head-quiet (threads e) (rw (end-stands (run-gives r z) e g) (run-gives r z .result-good .coherent))
 
-  -- of each thread of the finished head that a run leaves, the standing call on what it left says answer or stuck
+  -- of each thread of the finished head that a run leaves, the standing call on what it left says answer, partial or stuck
   pub finished-as-told : RunsWith n table count work limit v t w → v .refusal ≡ 0 → (e : Tree program) → TableOf n t (size-told v) e →
       {k : ℕ} {s : Values} → k < length (finished-head (threads e)) → StandsAt n t (size-told v) k s → SaysFinished s
   finished-as-told r z e g {k} l (stands u a o) = finished-code u (head-finished (o .before) u (o .after) (omega (arith, o .place, ap (λ (ts : List (Tree term)). length (finished-head ts)) (threads-there e g o))))

@@ -2,6 +2,7 @@ pub mod Admitted
 pub mod Refused
 pub mod Determined
 pub mod Worked
+pub mod Whole
 pub mod RoundTrip
 pub mod Heads
 pub mod Excluded

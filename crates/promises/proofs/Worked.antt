@@ -1,6 +1,6 @@
 -- Demand 2 over the calls: what every outcome that a contract allows has worked, for any node limit n.
 use mathlib.Core.Path.{_≡_, refl, sym, ap, _∙_}
-use mathlib.Core.Logic.{_⊎_, _↔_, Iff·trans, inl, inr}
+use mathlib.Core.Logic.{_⊎_, _↔_, Iff·trans, inl, inr, ⊎-elim}
 use mathlib.Core.List.{List, [], _∷_, _++_}
 use mathlib.Core.Option.{none, some}
 use Prim.Native.Nat.{ℕ, _*_, _-_, _≤_, _<_}
@@ -9,9 +9,10 @@ use lib.ListN.{length, getD, take, drop, replicate, length-append}
 use lib.Seq.{take-at}
 use Rattle.calculus.specs.declared.Refusal.the-variants.{Finished}
 use Rattle.calculus.specs.declared.Standing.{Standing}
-use Rattle.calculus.specs.declared.Standing.the-variants.{Answer, Stuck, Open}
+use Rattle.calculus.specs.declared.Standing.the-variants.{Answer, Stuck, Open, Partial}
 use Rattle.calculus.specs.Tree.{term, program, unif, Tree, two, ok, preorder, nodes, threads, program-of}
 use Rattle.calculus.specs.Put.{substitute}
+use Rattle.calculus.specs.Whole.{Holding}
 use Rattle.calculus.specs.Good.{InRange, Closed, Coherent, All, Good}
 use Rattle.calculus.specs.Redex.{Weak, plug}
 use Rattle.calculus.specs.Unifier.{Substitution, Solves, Unifier}
@@ -22,14 +23,15 @@ use Rattle.calculus.specs.Step.{Step, step, standing}
 use Rattle.calculus.specs.Run.{End, size, run, holds-nodes, room-of}
 use Rattle.calculus.specs.Text.{text}
 use Rattle.calculus.specs.Answers.{number, standingCode, Values}
-use Rattle.calculus.specs.Calls.{Refuses, front, Reads, read, refused, TableOf, Writes, written, not-written, StepsTo, step-refusals, StepsInto, stepped, not-stepped, end-table, ran-values, RunsWith, ran, not-run, StandsAt, stands, not-stood}
+use Rattle.calculus.specs.Calls.{Refuses, front, Reads, read, refused, TableOf, Writes, written, not-written, StepsTo, step-refusals, StepsInto, stepped, not-stepped, end-table, ran-values, RunsWith, ran, not-run, Accepts, thread-refusals, ThreadOf, StandsAt, stands, not-stood}
 use Rattle.calculus.proofs.Substitutes.{impossible}
 use Rattle.calculus.proofs.Answers.{number-positive, standing-injective}
 use Rattle.calculus.proofs.Alls.{all-threads, all-both, all-at}
 use Rattle.calculus.proofs.Preorders.{preorder-length, program-of-threads}
 use Rattle.calculus.proofs.Texts.{text-length}
 use Rattle.calculus.proofs.Steps.{step-chosen, no-step-normal, normal-no-step}
-use Rattle.calculus.proofs.Standings.{Says, standing-exactly}
+use Rattle.calculus.proofs.Wholes.{whole-substitute, whole-put-in}
+use Rattle.calculus.proofs.Standings.{Says, standing-exactly, partial-exactly, answer-exactly, value-exactly}
 use Rattle.calculus.proofs.Runs.{program-run-is}
 use Rattle.calculus.proofs.Preservation.{good-closed, good-coherent, step-good, run-good, run-choices, run-reductions}
 use Rattle.calculus.proofs.Outcomes.{table-of-unique, steps-once, runs-once}
@@ -218,13 +220,20 @@ module _ {n : ℕ} {table : List ℕ} {count : ℕ} where
       }
   run-gives (not-run r g) e = absurd (omega (arith, number-positive r))
 
+  -- a thread that the standing call accepts is closed and coherent
+  thread-good : {k : ℕ} {t : Tree term} → Accepts (thread-refusals n table count k) → (o : ThreadOf n table count k t) → Good n (program-of (o .before ++ (t ∷ o .after))) × Closed 0 t × Coherent t
+  thread-good {t = t} a o =
+      let ts : List (Tree term) = o .before ++ (t ∷ o .after) in
+      let good : Good n (program-of ts) = table-good (a .0, (a .1 .0, (a .1 .1 .0, tt))) (o .table-of) in
+      (good, all-at (Closed 0) (o .before) t (o .after) (good-closed n ts good), all-at Coherent (o .before) t (o .after) (good-coherent n ts good))
+
   -- what an accepted standing call has told
   pub has-stood : {k : ℕ} {v : Values} → StandsAt n table count k v → v .refusal ≡ 0 → HasStood n table count k v
   has-stood (stands t a o) e =
-      let ts : List (Tree term) = o .before ++ (t ∷ o .after) in
-      let good : Good n (program-of ts) = table-good (a .0, (a .1 .0, (a .1 .1 .0, tt))) (o .table-of) in
-      let says : (s : Standing) → (standingCode (standing t) ∷ [] ≡ standingCode s ∷ []) ↔ Says s t =
-      λ s. Iff·trans (code-told (standing t) s) (standing-exactly t (all-at (Closed 0) (o .before) t (o .after) (good-closed n ts good)) (all-at Coherent (o .before) t (o .after) (good-coherent n ts good)) s) in
+      let (good, closed, coherent) = thread-good a o in
+      let told : (s : Standing) → (standingCode (standing t) ∷ [] ≡ standingCode s ∷ []) ↔ (standing t ≡ s) = code-told (standing t) in
+      let says : (s : Standing) → (standingCode (standing t) ∷ [] ≡ standingCode s ∷ []) ↔ Says s t = λ s. Iff·trans (told s) (standing-exactly t closed coherent s) in
+      let value-or = value-exactly t closed coherent in
       record {
         thread = t;
         thread-of = o;
@@ -234,8 +243,18 @@ module _ {n : ℕ} {table : List ℕ} {count : ℕ} where
         answer-told = says Answer;
         stuck-told = says Stuck;
         open-told = says Open;
+        partial-told = Iff·trans (told Partial) (partial-exactly t closed coherent);
+        value-told = (
+          (λ f. value-or .0 (⊎-elim (λ i. inl (told Answer .0 i)) (λ i. inr (told Partial .0 i)) f)),
+          λ u. ⊎-elim (λ i. inl (told Answer .1 i)) (λ i. inr (told Partial .1 i)) (value-or .1 u),
+        );
+        answer-stays = λ f. let w = says Answer .0 f in ((λ σ. whole-substitute σ t w), λ i u. whole-put-in i u t w);
       }
   has-stood (not-stood r g) e = absurd (omega (arith, number-positive r))
+
+  -- not open, it is told as an answer exactly if it holds no free variable and no allocated abstraction
+  pub told-finished : {k : ℕ} (t : Tree term) → Accepts (thread-refusals n table count k) → ThreadOf n table count k t → (standingCode (standing t) ∷ [] ≡ 3 ∷ [] → ⊥) → (standingCode (standing t) ∷ [] ≡ 1 ∷ []) ↔ (Holding t → ⊥)
+  told-finished t a o f = let (good, closed, coherent) = thread-good a o in Iff·trans (code-told (standing t) Answer) (answer-exactly t closed coherent (λ e. f (code-told (standing t) Open .1 e)))
 
   -- a good program in a table is run with a work table that holds it, whatever the step limit
   pub good-runs : {work : List ℕ} {limit : ℕ} {v : Values} {t w : List ℕ} {p : Tree program} → TableOf n table count p → Good n p → count ≤ holds-nodes work → RunsWith n table count work limit v t w →

@@ -46,6 +46,6 @@ DemandThreeTables = (n : ℕ) (a b : Run n) → Further n a b → (e : Tree prog
 abbrev pub DemandThreeEnd : Type 0
 DemandThreeEnd = (n : ℕ) (a b : Run n) → Further n a b → (h : HasRun n (a .table) (a .count) (a .work) (a .limit) (a .told) (a .left) (a .cleared)) → SameHead n a b (finished-head (h .end .last))
 
--- what the standing call says of a finished thread: answer or stuck
+-- what the standing call says of a finished thread: answer, partial or stuck
 abbrev pub SaysFinished : Values → Type 0
-SaysFinished s = (s .refusal ≡ 0) × ((s .values ≡ 1 ∷ []) ⊎ (s .values ≡ 2 ∷ []))
+SaysFinished s = (s .refusal ≡ 0) × ((s .values ≡ 1 ∷ []) ⊎ ((s .values ≡ 4 ∷ []) ⊎ (s .values ≡ 2 ∷ [])))

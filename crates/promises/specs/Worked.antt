@@ -1,15 +1,16 @@
 -- Demand 2: what an accepted read, write, step, run and standing call have worked, for the node limit n. v is what the call returned; o, t and w are what it left in
 -- the output, the table and the work table.
 use mathlib.Core.Path.{_≡_}
-use mathlib.Core.Logic.{_↔_}
+use mathlib.Core.Logic.{_⊎_, _↔_}
 use mathlib.Core.Bool.{true}
 use mathlib.Core.List.{List, [], _∷_, _++_}
-use Prim.Native.Nat.{ℕ, _≤_}
+use Prim.Native.Nat.{ℕ, _+_, _*_, _≤_}
 use lib.ListN.{length, take, replicate}
 use Rattle.calculus.specs.declared.Standing.{Standing}
 use Rattle.calculus.specs.Tree.{term, program, unif, Tree, two, ok, preorder, nodes, threads, program-of}
-use Rattle.calculus.specs.Put.{substitute}
+use Rattle.calculus.specs.Put.{put-in, substitute}
 use Rattle.calculus.specs.Value.{value}
+use Rattle.calculus.specs.Whole.{whole, Holding}
 use Rattle.calculus.specs.Good.{Good}
 use Rattle.calculus.specs.Redex.{plug}
 use Rattle.calculus.specs.Unifier.{Substitution, Solves, Unifier}
@@ -20,7 +21,8 @@ use Rattle.calculus.specs.Choice.{Rewritable, Chosen, Choices}
 use Rattle.calculus.specs.Run.{End, IsRun, size, next-program, holds-nodes, room-of}
 use Rattle.calculus.specs.Text.{text}
 use Rattle.calculus.specs.Answers.{standingCode, Values}
-use Rattle.calculus.specs.Calls.{front, Reads, TableOf, end-table, ran-values, ThreadOf}
+use Rattle.calculus.specs.Calls.{front, Reads, TableOf, end-table, ran-values, ThreadOf, StandsAt, PartAt}
+use Rattle.table.specs.Nodes.{kindAt}
 
 -- A read has to accept exactly the text of a good program that the output holds.
 pub record Readable (n : ℕ) (b out : List ℕ) : Type 0 where
@@ -94,14 +96,29 @@ pub record HasRun (n : ℕ) (table : List ℕ) (count : ℕ) (work : List ℕ) (
   pub result-good : Good n (program-of (end .last))
   pub back : TableOf n t (size (end .last)) (program-of (end .last))
 
--- An accepted standing call: the table holds a good program with a thread k. One standing is told: answer exactly if the thread is a value, stuck exactly if it is
--- stuck by document 003's grammar, open exactly if some rule of document 003 rewrites it.
+-- An accepted standing call: the table holds a good program with a thread k. One standing is told: answer exactly if the thread is built of constructors only,
+-- partial exactly if it is a value that holds a free variable or an allocated abstraction, stuck exactly if it is stuck by document 003's grammar, open exactly if
+-- some rule of document 003 rewrites it. One of the first two is told of every value: before request 3 that was the answer. An answer is the same whatever is bound or
+-- put in later.
 pub record HasStood (n : ℕ) (table : List ℕ) (count k : ℕ) (v : Values) : Type 0 where
   pub thread : Tree term
   pub thread-of : ThreadOf n table count k thread
   pub good : Good n (program-of (thread-of .before ++ (thread ∷ thread-of .after)))
   pub standing : Standing
   pub values : v .values ≡ standingCode standing ∷ []
-  pub answer-told : (v .values ≡ 1 ∷ []) ↔ (value thread ≡ true)
+  pub answer-told : (v .values ≡ 1 ∷ []) ↔ (whole thread ≡ true)
   pub stuck-told : (v .values ≡ 2 ∷ []) ↔ Stuck thread
   pub open-told : (v .values ≡ 3 ∷ []) ↔ Rewritable thread
+  pub partial-told : (v .values ≡ 4 ∷ []) ↔ ((value thread ≡ true) × Holding thread)
+  pub value-told : ((v .values ≡ 1 ∷ []) ⊎ (v .values ≡ 4 ∷ [])) ↔ (value thread ≡ true)
+  pub answer-stays : v .values ≡ 1 ∷ [] → ((σ : Substitution) → substitute σ thread ≡ thread) × ((i : ℕ) (u : Tree term) → put-in thread i u ≡ thread)
+
+-- no node of a part of a table has the kind
+abbrev pub NoNodeOf : ℕ → List ℕ → Type 0
+NoNodeOf kind part = (i : ℕ) → 2 * i + 2 ≤ length part → kindAt part i ≡ kind → ⊥
+
+-- a thread that is not told as open is an answer exactly if no node of the part that the thread call hands back has kind 3 or 6
+abbrev pub AnswerByKinds : Type 0
+AnswerByKinds =
+    (n : ℕ) (table : List ℕ) (count k : ℕ) (v : Values) (start : ℕ) (part : List ℕ) → StandsAt n table count k v → v .refusal ≡ 0 → (v .values ≡ 3 ∷ [] → ⊥) → PartAt n table count k start part →
+    (v .values ≡ 1 ∷ []) ↔ (NoNodeOf 3 part × NoNodeOf 6 part)

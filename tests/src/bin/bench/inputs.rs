@@ -25,7 +25,7 @@ pub fn cases() -> Vec<Case> {
     let mut cases = vec![
         case(
             "a structure of 1,999 nodes: nothing to do",
-            one_thread(&structure(999, |_| (4, 2))),
+            plain_structure(),
             1,
         ),
         case(
@@ -245,6 +245,11 @@ fn rules(name: &str) -> Option<Vec<u16>> {
         .with_extension("csexp");
     let text = std::fs::read(file).ok()?;
     Some(write_table(&read_text(&text).expect("a rule set is read")))
+}
+
+/// A structure of 1,999 nodes, alone in its program.
+pub fn plain_structure() -> Vec<u16> {
+    one_thread(&structure(999, |_| (4, 2)))
 }
 
 /// The longest text of a program: a structure of the largest constructors.

@@ -6,8 +6,8 @@
 
 mod inputs;
 
-use inputs::{cases, long_structure, placements, Case};
-use mespindro_tests::binding;
+use inputs::{cases, long_structure, placements, plain_structure, Case};
+use mespindro_tests::binding::{self, Standing};
 use mespindro_tests::evaluator::table::read_table;
 use mespindro_tests::evaluator::{self, NODES, TEXT};
 use mespindro_tests::on_big_stack;
@@ -49,6 +49,7 @@ fn measure_all() -> Vec<Row> {
     let mut rows: Vec<Row> = cases().iter().map(measure).collect();
     rows.push(reading());
     rows.push(writing());
+    rows.push(standing());
     rows.push(reading_out());
     rows
 }
@@ -192,6 +193,36 @@ fn writing() -> Row {
         },
     );
     row("writing a text", &text, &table, library, evaluator)
+}
+
+/// How one long thread stands.
+fn standing() -> Row {
+    let table = plain_structure();
+    let count = table.len() / 2;
+    let library = least(
+        || {},
+        |done| {
+            let told = binding::standing(&table, count, 0);
+            done();
+            assert_eq!(told, Ok(Standing::Answer));
+        },
+    );
+    let evaluator = least(
+        || {},
+        |done| {
+            let told = evaluator::standing(&table, count, 0);
+            done();
+            assert_eq!(told, Ok(Standing::Answer));
+        },
+    );
+    Row {
+        name: "the standing of a structure of 1,999 nodes".to_string(),
+        nodes: count,
+        steps: 0,
+        library,
+        evaluator: Some(evaluator),
+        floor: copy_floor(count),
+    }
 }
 
 /// Every thread's standing and part, each by its own call; against copying the table once.

@@ -1,0 +1,3 @@
+-- The laws behind the proofs of src/.
+pub mod Wholes
+pub mod Standings
