@@ -4,10 +4,11 @@ mod short;
 
 use mespindro_tests::binding::{self, Refusal, Standing};
 use mespindro_tests::compare;
-use mespindro_tests::evaluator;
 use mespindro_tests::evaluator::table::write_table;
 use mespindro_tests::evaluator::tree::{application, program_size, Program, Term};
+use mespindro_tests::evaluator::{self, NODES};
 use mespindro_tests::generate;
+use mespindro_tests::on_big_stack;
 use mespindro_tests::random::Random;
 
 use Standing::{Answer, Open, Partial, Stuck};
@@ -43,7 +44,11 @@ fn first_threads() {
         ("((u x0 c1))", Open),
     ];
     for (program, expected) in cases {
-        assert_eq!(standing(&short::program(program), 0), Ok(expected), "{program}");
+        assert_eq!(
+            standing(&short::program(program), 0),
+            Ok(expected),
+            "{program}"
+        );
     }
     println!("{} programs", cases.len());
 }
@@ -52,7 +57,10 @@ fn first_threads() {
 #[test]
 fn further_threads() {
     let mixed = short::program("(c1 x0 (L 0 (b0)) (a x0 c1) (n b0))");
-    for (k, expected) in [Answer, Partial, Partial, Stuck, Open].into_iter().enumerate() {
+    for (k, expected) in [Answer, Partial, Partial, Stuck, Open]
+        .into_iter()
+        .enumerate()
+    {
         assert_eq!(standing(&mixed, k), Ok(expected), "thread {k}");
     }
     assert_eq!(standing(&mixed, 5), Err(Refusal::NoThread));
@@ -69,10 +77,17 @@ fn further_threads() {
 
 /// A constructor applied to the parts one after another, or each part to the rest.
 fn chain(parts: &[Term], right: bool) -> Term {
-    let pair = |head: &Term, tail| application(application(Term::Constructor(1), head.clone()), tail);
+    let pair =
+        |head: &Term, tail| application(application(Term::Constructor(1), head.clone()), tail);
     match right {
-        false => parts.iter().cloned().fold(Term::Constructor(1), application),
-        true => parts.iter().rev().fold(Term::Constructor(0), |tail, head| pair(head, tail)),
+        false => parts
+            .iter()
+            .cloned()
+            .fold(Term::Constructor(1), application),
+        true => parts
+            .iter()
+            .rev()
+            .fold(Term::Constructor(0), |tail, head| pair(head, tail)),
     }
 }
 
@@ -89,7 +104,11 @@ fn one_unknown_anywhere() {
                 parts[place] = unknown;
                 let program = vec![chain(&parts, right)];
                 let (table, count) = (write_table(&program), program_size(&program));
-                assert_eq!(binding::standing(&table, count, 0), Ok(Partial), "argument {place}");
+                assert_eq!(
+                    binding::standing(&table, count, 0),
+                    Ok(Partial),
+                    "argument {place}"
+                );
                 tried += 1;
             }
             parts[place] = Term::Constructor(2);
@@ -98,23 +117,33 @@ fn one_unknown_anywhere() {
     println!("{tried} structures with one unknown");
 }
 
-/// By the kinds alone: a thread that is not open is an answer exactly if none of its nodes has kind 3 or 6. Every standing occurs.
+/// By the kinds alone: a thread that is not open is an answer exactly if none of its nodes has kind 3 or 6. Asked of random programs as they
+/// are and after some steps, so that every standing occurs.
 #[test]
 fn by_kinds() {
-    let mut random = Random::new(3);
     let mut told = [0; 4];
-    for _ in 0..5_000 {
-        let program = generate::sound_program(&mut random);
-        let (table, count) = (write_table(&program), program_size(&program));
-        for (k, thread) in program.iter().enumerate() {
-            let standing = binding::standing(&table, count, k).expect("a thread of a sound program");
-            assert_eq!(standing, evaluator::step::standing(thread));
-            let kinds = binding::thread(&table, count, k).iter().step_by(2);
-            let unknown = kinds.filter(|kind| [3, 6].contains(*kind)).count();
-            assert_eq!(standing == Answer, standing != Open && unknown == 0);
-            told[standing as usize] += 1;
+    on_big_stack(|| {
+        let mut random = Random::new(3);
+        for _ in 0..5_000 {
+            let program = generate::sound_program(&mut random);
+            count_standings(&program, &mut told);
+            if let Some((_, _, end)) = evaluator::run_program(program, NODES, 30) {
+                count_standings(&end, &mut told);
+            }
         }
-    }
-    assert!(told.iter().all(|times| *times >= 100), "{told:?}");
+    });
+    assert!(told.iter().all(|times| *times >= 500), "{told:?}");
     println!("answer, stuck, open, partial: {told:?}");
+}
+
+fn count_standings(program: &Program, told: &mut [usize; 4]) {
+    let (table, count) = (write_table(program), program_size(program));
+    for (k, thread) in program.iter().enumerate() {
+        let standing = binding::standing(&table, count, k).expect("a thread of a sound program");
+        assert_eq!(standing, evaluator::step::standing(thread));
+        let kinds = binding::thread(&table, count, k).iter().step_by(2);
+        let unknown = kinds.filter(|kind| [3, 6].contains(*kind)).count();
+        assert_eq!(standing == Answer, standing != Open && unknown == 0);
+        told[standing as usize] += 1;
+    }
 }

@@ -3,7 +3,7 @@ use mathlib.Core.Path.{_≡_, refl, sym, _∙_}
 use mathlib.Core.Logic.{_↔_, Iff·trans, inl, inr}
 use mathlib.Core.Bool.{true}
 use mathlib.Core.List.{List}
-use Prim.Native.Nat.{ℕ, _+_, _*_, _/_, _≤_}
+use Prim.Native.Nat.{ℕ, _+_, _/_}
 use native.Mathlib.Omega.{arith}
 use lib.ListN.{length}
 use Rattle.calculus.specs.Tree.{term, Tree, preorder}
@@ -13,7 +13,7 @@ use Rattle.calculus.proofs.Answers.{number-positive}
 use Rattle.calculus.proofs.Outcomes.{parts-once}
 use Rattle.table.specs.Nodes.{numberAt}
 use Rattle.table.specs.Marks.{numbered}
-use Rattle.table.proofs.Positions.{NodeWith, uses-numbered, stored-numbered, numbered-node, node-numbered}
+use Rattle.table.proofs.Positions.{uses-numbered, stored-numbered, numbered-node, node-numbered}
 use Rattle.promises.specs.Worked.{NoNodeOf, AnswerByKinds}
 use Rattle.promises.proofs.Worked.{told-finished}
 

@@ -11,11 +11,11 @@ use Rattle.calculus.specs.declared.Refusal.the-variants as refusal
 use Rattle.calculus.specs.Tree.{term, program, Tree, nodes, threads, program-of}
 use Rattle.calculus.specs.Good.{Closed, Coherent, All, Good}
 use Rattle.calculus.specs.Answers.{number, Values}
-use Rattle.calculus.specs.Calls.{Refusals, Accepts, Refuses, TableOf, nodes-before, table-refusals, ThreadOf, PartAt, part, no-part}
+use Rattle.calculus.specs.Calls.{Refusals, Accepts, Refuses, TableOf, nodes-before, table-refusals, thread-refusals, ThreadOf, PartAt, part, no-part}
 use Rattle.calculus.proofs.Alls.{all-each, all-with}
 use Rattle.calculus.proofs.Outcomes.{table-of-unique}
 use Rattle.calculus.proofs.Preorders.{nodes-positive, threads-of-program}
-use Rattle.table.specs.Nodes.{Stands}
+use Rattle.table.specs.Nodes.{Stands, SomeTree, Ends}
 use Rattle.table.specs.Checks.{walkedNumber, Walks, nothing, loose, scoped, OneBody, ProgramIn, ThreadsAgree, in-force, checkedNumber, Checks, admitted, refused}
 use Rattle.table.specs.Threads.{ProgramAt, placeValues, PlaceOf, from, missing, SpanOf}
 use Rattle.table.specs.declared.Walked.{Walked}
@@ -175,9 +175,17 @@ pub record PartIn (n : ℕ) (t : List ℕ) (count k i e : ℕ) : Type 0 where
   pub fits : 2 * e ≤ length t
   pub span : SpanOf n t count k (2 * i) (2 * (e - i))
 
--- the last refusal of the thread call
+-- the last refusal of the thread calls
 abbrev no-thread : ℕ → List ℕ → ℕ → ℕ → Refusals
 no-thread n t count k = (refusal.NoThread, (p : Tree program) × (TableOf n t count p × (length (threads p) ≤ k))) ∷ []
+
+-- the thread k stands at the node i
+pub record ThreadAt (n : ℕ) (t : List ℕ) (count k i : ℕ) : Type 0 where
+  pub thread : Tree term
+  pub accepts : Accepts (thread-refusals n t count k)
+  pub thread-of : ThreadOf n t count k thread
+  pub start : nodes-before (thread-of .before) ≡ i
+  pub there : Stands t i thread
 
 -- a thread stands behind those before it
 behind-threads : {t : List ℕ} {x : Tree term} (before after : List (Tree term)) (i : ℕ) → Stands t i (program-of (before ++ (x ∷ after))) → Stands t (i + nodes-before before) x
@@ -202,9 +210,13 @@ module _ {n : ℕ} {t : List ℕ} {count : ℕ} where
       go (admitted p h k a) e = absurd (omega (arith, positive q))
       go (refused s g) e = (s, (e, g))
 
+  -- so do the thread calls
+  pub thread-refused : {r : Checked} {q : Refusal} (k : ℕ) → r ≡ Refused q → Checks n t count (checkedNumber r) → (s : Refusal) × ((number s ≡ number q) × Refuses (thread-refusals n t count k) s)
+  thread-refused k e h = let s = refused-there e h in (s .0, (s .1 .0, refuses-early (no-thread n t count k) (table-refusals n t count) (s .0) (s .1 .1)))
+
   -- then there is no part
-  pub part-refused : {r : Checked} {q : Refusal} (k : ℕ) → r ≡ Refused q → Checks n t count (checkedNumber r) → SpanOf n t count k 0 0
-  part-refused k e h = let s = refused-there e h in record { holds = no-part (s .0) (refuses-early (no-thread n t count k) (table-refusals n t count) (s .0) (s .1 .1)); within = omega arith }
+  pub part-refused : {k : ℕ} {s : Refusal} → Refuses (thread-refusals n t count k) s → SpanOf n t count k 0 0
+  part-refused {s = s} h = record { holds = no-part s h; within = omega arith }
 
 module _ {n : ℕ} {t : List ℕ} {count : ℕ} (a : AdmittedIn n t count) where
   -- it stands at the front
@@ -215,38 +227,49 @@ module _ {n : ℕ} {t : List ℕ} {count : ℕ} (a : AdmittedIn n t count) where
   this-one {p} h = rw (one-tree p (a .program-there) h (table-stands (a .table-of))) (a .table-of)
 
   -- there are not so many threads
-  pub part-missing : {k : ℕ} {r : Place} → r ≡ Missing → PlaceOf t k (placeValues r) → SpanOf n t count k 0 0
-  part-missing {k} e w = go w (ap (λ p. placeValues p .refusal) e)
+  pub thread-missing : {k : ℕ} {r : Place} → r ≡ Missing → PlaceOf t k (placeValues r) → Refuses (thread-refusals n t count k) refusal.NoThread
+  thread-missing {k} e w = go w (ap (λ p. placeValues p .refusal) e)
     where
-      go : {v : Values} → PlaceOf t k v → v .refusal ≡ 10 → SpanOf n t count k 0 0
+      go : {v : Values} → PlaceOf t k v → v .refusal ≡ 10 → Refuses (thread-refusals n t count k) refusal.NoThread
       go (from before x after h l) e = absurd (omega arith)
-      go (missing p h l) e =
-          record { holds = no-part refusal.NoThread (refuses-late (no-thread n t count k) (table-refusals n t count) refusal.NoThread (a .accepts) (inl ((p, (this-one h, l)), refl))); within = omega arith }
+      go (missing p h l) e = refuses-late (no-thread n t count k) (table-refusals n t count) refusal.NoThread (a .accepts) (inl ((p, (this-one h, l)), refl))
 
-  part-at : {k i e : ℕ} {v : Values} → PlaceOf t k v → v ≡ record { refusal = 0; values = i ∷ e ∷ [] } → PartIn n t count k i e
-  part-at {k} {i} {e} (from before x after h l) q =
+  there-at : {k i : ℕ} {v : Values} → PlaceOf t k v → v ≡ record { refusal = 0; values = i ∷ [] } → ThreadAt n t count k i
+  there-at {k} {i} (from before x after h l) q =
       let both = ap (λ (v : Values). v .values) q in
       let start : nodes-before before ≡ i = cc in
-      let end : nodes-before before + nodes x ≡ e = cc in
-      let w : Stands t i x = moved (omega arith) (behind-threads before after 0 h) in
       let o : ThreadOf n t count k x = record { before = before; after = after; table-of = this-one h; place = l } in
       let enough : (p : Tree program) × (TableOf n t count p × (length (threads p) ≤ k)) → ⊥ =
       λ m. omega (arith, m .1 .1, length-append before (x ∷ after), ap length (ap threads (table-of-unique (m .1 .0) (o .table-of)) ∙ threads-of-program (before ++ (x ∷ after)))) in
-      let d : 2 * (e - i) ≡ 2 * nodes x = omega arith in
-      let b = ends-in w in
+      record {
+        thread = x;
+        accepts = accepts-both (no-thread n t count k) (table-refusals n t count) (a .accepts) (enough, tt);
+        thread-of = o;
+        start = start;
+        there = moved (omega arith) (behind-threads before after 0 h);
+      }
+  there-at (missing p h l) q = absurd (omega (arith, ap (λ (v : Values). v .refusal) q))
+
+  -- the thread is there
+  pub thread-there : {k i : ℕ} {r : Place} → r ≡ From i → PlaceOf t k (placeValues r) → ThreadAt n t count k i
+  thread-there q w = there-at w (ap placeValues q)
+
+module _ {n : ℕ} {t : List ℕ} {count k i : ℕ} (h : ThreadAt n t count k i) where
+  -- its end can be looked for
+  pub thread-tree : SomeTree t i
+  thread-tree = record { sort = term; tree = h .thread; stands = h .there }
+
+  -- its own nodes
+  pub part-there : {e : ℕ} → Ends t i e → PartIn n t count k i e
+  part-there {e} d =
+      let end : e ≡ i + nodes (h .thread) = d .ends (h .thread) (h .there) in
+      let m : 2 * (e - i) ≡ 2 * nodes (h .thread) = omega arith in
+      let b = ends-in (h .there) in
       record {
         order = omega arith;
         fits = omega arith;
-        span = record {
-          holds = rw (d, own-part w, ← start) (part x (accepts-both (no-thread n t count k) (table-refusals n t count) (a .accepts) (enough, tt)) o);
-          within = omega arith;
-        };
+        span = record { holds = rw (m, own-part (h .there), ← h .start) (part (h .thread) (h .accepts) (h .thread-of)); within = omega arith };
       }
-  part-at (missing p h l) q = absurd (omega (arith, ap (λ (v : Values). v .refusal) q))
-
-  -- a thread's own nodes
-  pub part-there : {k i e : ℕ} {r : Place} → r ≡ From i e → PlaceOf t k (placeValues r) → PartIn n t count k i e
-  part-there {k} {i} {e} q w = part-at w (ap placeValues q)
 
 -- the part as it is lent, from its first number to before its last one's next
 pub span-part : {n : ℕ} {t : List ℕ} {count k start many : ℕ} → SpanOf n t count k start many → PartAt n t count k start (take (start + many - start) (drop start t))

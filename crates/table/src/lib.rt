@@ -23,9 +23,9 @@ pub enum Checked {
     Refused(Refusal),
 }
 
-// Where a thread stands: its first node, and the node after it.
+// Where a thread stands: its first node.
 pub enum Place {
-    From(usize, usize),
+    From(usize),
     Missing,
 }
 

@@ -25,11 +25,10 @@ pub fn place_of(t: &[u16], k: usize) -> Place
             return Place::Missing;
         }
         let start = at + 1;
-        let end = end_of(t, start);
         if i == k {
-            return Place::From(start, end);
+            return Place::From(start);
         }
-        at = end;
+        at = end_of(t, start);
         i += 1;
     }
 }
@@ -44,12 +43,13 @@ pub fn span_of(t: &[u16], count: usize, k: usize, limit: usize, scratch: &mut [u
             length: 0,
         };
     };
-    let Place::From(start, end) = place_of(t, k) else {
+    let Place::From(start) = place_of(t, k) else {
         return Span {
             start: 0,
             length: 0,
         };
     };
+    let end = end_of(t, start);
     Span {
         start: 2 * start,
         length: 2 * (end - start),

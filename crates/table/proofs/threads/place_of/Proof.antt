@@ -41,28 +41,27 @@ module _ {t : List ℕ} {k at i m n : ℕ} (h : Placing t k at i) (r : NodeIs t 
   thread-here : SomeTree t (at + 1)
   thread-here = record { sort = term; tree = one-more .thread; stands = one-more .stands }
 
-  module _ {e : ℕ} (d : Ends t (at + 1) e) where
-    found : i ≡ k → PlaceOf t k (placeValues (From (at + 1) e))
-    unfolding threads
-    found q =
-        let a = one-more in
-        let w : Stands t 0 (program-of (h .before ++ (a .thread ∷ threads (a .others)))) = rw (a .is) at (h .reached .whole) in
-        rw (← h .reached .place, d .ends (a .thread) (a .stands), ← h .reached .place) (from (h .before) (a .thread) (threads (a .others)) w (h .count ∙ q))
+  found : i ≡ k → PlaceOf t k (placeValues (From (at + 1)))
+  unfolding threads
+  found q =
+      let a = one-more in
+      let w : Stands t 0 (program-of (h .before ++ (a .thread ∷ threads (a .others)))) = rw (a .is) at (h .reached .whole) in
+      rw (← h .reached .place) (from (h .before) (a .thread) (threads (a .others)) w (h .count ∙ q))
 
-    -- past the thread
-    past : (i ≡ k → ⊥) → Placing t k e (i + 1)
-    past q =
-        let a = one-more in
-        let w = reached-more (h .reached) a in
-        let z = rw (← d .ends (a .thread) (a .stands)) at w in
-        record {
-          before = h .before ++ (a .thread ∷ []);
-          others = a .others;
-          reached = z;
-          count = rw length-append (omega (arith, h .count));
-          small = omega (arith, h .small);
-          room = in-table (z .stands);
-        }
+  -- past the thread
+  past : {e : ℕ} → Ends t (at + 1) e → (i ≡ k → ⊥) → Placing t k e (i + 1)
+  past d q =
+      let a = one-more in
+      let w = reached-more (h .reached) a in
+      let z = rw (← d .ends (a .thread) (a .stands)) at w in
+      record {
+        before = h .before ++ (a .thread ∷ []);
+        others = a .others;
+        reached = z;
+        count = rw length-append (omega (arith, h .count));
+        small = omega (arith, h .small);
+        room = in-table (z .stands);
+      }
 
 abbrev Inv-loop : tie.InvT-loop
 Inv-loop t k at₀ i₀ at i = Placing t k at i
@@ -82,11 +81,11 @@ returns c = search none-left
 add-start : tie.Need-add-start Inv-loop μ-loop
 add-start c = omega arith
 
-end-of-requires : tie.Need-end-of-requires Inv-loop μ-loop
-end-of-requires c κs = thread-here (c .before .before .before .loop .inv) (c .before .before .node-at .ensures) (c .if1 .left)
-
 returns-2 : tie.Need-returns-2 Inv-loop μ-loop
-returns-2 c = found (c .before .before .before .before .before .loop .inv) (c .before .before .before .before .node-at .ensures) (c .before .before .if1 .left) (c .before .end-of .ensures) (c .if2 .taken)
+returns-2 c = found (c .before .before .before .before .loop .inv) (c .before .before .before .node-at .ensures) (c .before .if1 .left) (c .if2 .taken)
+
+end-of-requires : tie.Need-end-of-requires Inv-loop μ-loop
+end-of-requires c κs = thread-here (c .before .before .before .before .loop .inv) (c .before .before .before .node-at .ensures) (c .before .if1 .left)
 
 add-i : tie.Need-add-i Inv-loop μ-loop
 add-i c = omega arith
@@ -95,7 +94,7 @@ loop-less : tie.Need-loop-less Inv-loop μ-loop
 loop-less c = omega arith
 
 loop-again : tie.Need-loop-again Inv-loop μ-loop
-loop-again c = past (c .before .before .before .before .before .loop .inv) (c .before .before .before .before .node-at .ensures) (c .before .before .if1 .left) (c .before .end-of .ensures) (c .if2 .left)
+loop-again c = past (c .before .before .before .before .before .loop .inv) (c .before .before .before .before .node-at .ensures) (c .before .before .if1 .left) (c .end-of .ensures) (c .before .if2 .left)
 
 pub place-of-spec : {M : Type 1} → statement M
 place-of-spec =
@@ -107,8 +106,8 @@ place-of-spec =
     node-at-requires
     returns
     add-start
-    end-of-requires
     returns-2
+    end-of-requires
     add-i
     loop-less
     loop-again)

@@ -1,8 +1,8 @@
--- `table::threads::span_of` meets its contract: what the check admits is one program, and the place of a thread in it is its part of the table.
+-- `table::threads::span_of` meets its contract: what the check admits is one program, and the nodes from a thread's place to its end are its part of the table.
 use native.Mathlib.Omega.{arith}
 use borrow.Author.Needs.{needs}
 use Rattle.table.specs.Checks.{in-force}
-use Rattle.table.proofs.Verdicts.{AdmittedIn, PartIn, admitted-there, admitted-program, part-refused, part-missing, part-there}
+use Rattle.table.proofs.Verdicts.{AdmittedIn, ThreadAt, PartIn, admitted-there, admitted-program, thread-refused, thread-missing, part-refused, thread-there, thread-tree, part-there}
 use lib.ListN.{length}
 use Rattle.table.proofs.threads.span_of.Statement.{statement}
 use Rattle.table.proofs.threads.span_of.Tie as tie
@@ -20,7 +20,7 @@ same-length : tie.Need-same-length
 same-length c = search needs
 
 returns : tie.Need-returns
-returns c = part-refused _ (c .enum-told2 .given .1) (c .before .before .before .before .check .ensures)
+returns c = part-refused (thread-refused _ (c .enum-told2 .given .1) (c .before .before .before .before .check .ensures) .1 .1)
 
 -- past the check an admitted program stands there
 admitted-in : (c : tie.After-enum-told) →
@@ -41,13 +41,22 @@ same-length-2 : tie.Need-same-length-2
 same-length-2 c = search needs
 
 returns-2 : tie.Need-returns-2
-returns-2 c = let p = c .before .before in part-missing (admitted-in (p .before)) (c .enum-told3 .given .1) (p .place-of .ensures)
+returns-2 c = let p = c .before .before in part-refused (thread-missing (admitted-in (p .before)) (c .enum-told3 .given .1) (p .place-of .ensures))
 
--- past the search the thread stands from `start` to before `end`
-part-in : (c : tie.After-known-told) →
+-- past the search for it the thread stands at `start`
+thread-at : (c : tie.After-known-told) →
     let s = c .before .before .before .before .before .before .before .before .before .before .before .before in
-    PartIn (in-force (s .args .limit) (length (s .args .scratch .now))) (s .args .t .now) (s .args .count) (s .args .k) (c .before .start .given .0 .0) (c .before .start .given .0 .1 .0)
-part-in c = let p = c .before .before .before in part-there (admitted-in (p .before)) (c .before .start .given .1) (p .place-of .ensures)
+    ThreadAt (in-force (s .args .limit) (length (s .args .scratch .now))) (s .args .t .now) (s .args .count) (s .args .k) (c .before .start .given .0 .0)
+thread-at c = let p = c .before .before .before in thread-there (admitted-in (p .before)) (c .before .start .given .1) (p .place-of .ensures)
+
+end-of-requires : tie.Need-end-of-requires
+end-of-requires c κs = thread-tree (thread-at c)
+
+-- and its part ends before `end`
+part-in : (c : tie.After-end-of) →
+    let s = c .before .before .before .before .before .before .before .before .before .before .before .before .before in
+    PartIn (in-force (s .args .limit) (length (s .args .scratch .now))) (s .args .t .now) (s .args .count) (s .args .k) (c .before .before .start .given .0 .0) (c .end-of .result)
+part-in c = part-there (thread-at (c .before)) (c .end-of .ensures)
 
 mul-t12 : tie.Need-mul-t12
 mul-t12 c = omega (arith, part-in c)
@@ -78,6 +87,7 @@ span-of-spec =
     enum-told-3
     same-length-2
     returns-2
+    end-of-requires
     mul-t12
     sub-t13
     mul-t14
