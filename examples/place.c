@@ -73,9 +73,10 @@ static int print_thread(size_t k, uint16_t standing, struct mespindro_part part)
         if (print_placement(table + part.start, part.length)) return 1;
         printf("thread %zu: an answer, but no placement of tenant, port and VLAN\n", k);
         return 0;
-    case MESPINDRO_PARTIAL: printf("thread %zu: partial, a part of it is still unknown\n", k); return 0;
+    case MESPINDRO_PARTIAL: printf("thread %zu: partial, something in it is undecided or still a rule\n", k); return 0;
     case MESPINDRO_STUCK: printf("thread %zu: stuck, no rule applies\n", k); return 0;
-    default: printf("thread %zu: open, there was more to do\n", k); return 0;
+    case MESPINDRO_OPEN: printf("thread %zu: open, there was more to do\n", k); return 0;
+    default: printf("thread %zu: a standing that this program does not know\n", k); return 0;
     }
 }
 

@@ -73,7 +73,9 @@ fn print_thread(k: usize, standing: Standing, nodes: &[u16]) -> bool {
         (Standing::Answer, None) => {
             println!("thread {k}: an answer, but no placement of tenant, port and VLAN")
         }
-        (Standing::Partial, _) => println!("thread {k}: partial, a part of it is still unknown"),
+        (Standing::Partial, _) => {
+            println!("thread {k}: partial, something in it is undecided or still a rule")
+        }
         (Standing::Stuck, _) => println!("thread {k}: stuck, no rule applies"),
         (Standing::Open, _) => println!("thread {k}: open, there was more to do"),
     }

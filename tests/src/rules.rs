@@ -57,7 +57,7 @@ pub fn run(text: &[u8], steps: u32) -> Result<End, Refusal> {
     })
 }
 
-/// The end in words: reason, steps and nodes, then each thread with its standing and what it leaves open.
+/// The end in words: reason, steps and nodes, then each thread with its standing and what it leaves undecided.
 pub fn describe(end: &End, names: &Names) -> String {
     let reason = match end.stop.reason {
         Reason::Ended => "ended",

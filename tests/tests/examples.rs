@@ -26,10 +26,27 @@ fn words(paths: &[&Path]) -> Vec<String> {
     paths.iter().map(|p| p.display().to_string()).collect()
 }
 
-/// A rule set that nothing meets: `((u c1 c2))`.
-fn impossible() -> PathBuf {
-    let file = folder().join("impossible.csexp");
-    std::fs::write(&file, "((1:u(1:c1:1)(1:c1:2)))").unwrap();
+/// Rule sets of one thread that is no placement, and what place prints for them: nothing meets `((u c1 c2))`; an answer of another shape; a
+/// closure.
+const OTHERS: [(&str, &str); 3] = [
+    (
+        "((1:u(1:c1:1)(1:c1:2)))",
+        "no alternative is left: the request cannot be met\n",
+    ),
+    (
+        "((1:a(1:c1:3)(1:c1:1)))",
+        "thread 0: an answer, but no placement of tenant, port and VLAN\n",
+    ),
+    (
+        "((1:L1:0((1:c1:1))))",
+        "thread 0: partial, something in it is undecided or still a rule\n",
+    ),
+];
+
+/// The text in a file of this test's own: the tests run at one time.
+fn other(text: &str) -> PathBuf {
+    let file = folder().join(format!("{:?}.csexp", std::thread::current().id()));
+    std::fs::write(&file, text).unwrap();
     file
 }
 
@@ -52,10 +69,10 @@ fn cases() -> Vec<(&'static str, String, i32)> {
     let standing = [
         "tenant 1 -> port 1, VLAN 101",
         "thread 1: stuck, no rule applies",
-        "thread 2: partial, a part of it is still unknown",
+        "thread 2: partial, something in it is undecided or still a rule",
     ];
     let accident = [
-        "thread 0: partial, a part of it is still unknown",
+        "thread 0: partial, something in it is undecided or still a rule",
         "tenant 3 -> port 9, VLAN 103",
     ];
     let refused = "read refused, 3: the text is not one canonical S-expression";
@@ -77,14 +94,12 @@ fn check(place: impl Fn(&Path) -> Output) {
         assert_eq!(printed, *expected, "{file}");
         assert_eq!(output.status.code(), Some(*status), "{file}");
     }
-    let none = place(&impossible());
-    let printed = String::from_utf8_lossy(&none.stdout);
-    assert_eq!(
-        printed,
-        "no alternative is left: the request cannot be met\n"
-    );
-    assert_eq!(none.status.code(), Some(1));
-    println!("{} rule sets placed", cases.len() + 1);
+    for (text, expected) in OTHERS {
+        let output = place(&other(text));
+        assert_eq!(String::from_utf8_lossy(&output.stdout), expected, "{text}");
+        assert_eq!(output.status.code(), Some(1), "{text}");
+    }
+    println!("{} rule sets placed", cases.len() + OTHERS.len());
 }
 
 #[test]

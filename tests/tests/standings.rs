@@ -75,19 +75,16 @@ fn further_threads() {
     assert_eq!(binding::standing(&loose, 5, 0), Err(Refusal::NoBinder));
 }
 
-/// A constructor applied to the parts one after another, or each part to the rest.
+/// A constructor applied to the parts one after another; or a list of the parts, whose tail is the last one.
 fn chain(parts: &[Term], right: bool) -> Term {
-    let pair =
-        |head: &Term, tail| application(application(Term::Constructor(1), head.clone()), tail);
+    let (first, last) = (Term::Constructor(1), parts.last().expect("a part").clone());
+    let pair = |head: &Term| application(first.clone(), head.clone());
     match right {
-        false => parts
-            .iter()
-            .cloned()
-            .fold(Term::Constructor(1), application),
-        true => parts
-            .iter()
-            .rev()
-            .fold(Term::Constructor(0), |tail, head| pair(head, tail)),
+        false => parts.iter().cloned().fold(first, application),
+        true => {
+            let heads = parts[..parts.len() - 1].iter().rev();
+            heads.fold(last, |tail, head| application(pair(head), tail))
+        }
     }
 }
 
@@ -96,7 +93,7 @@ fn chain(parts: &[Term], right: bool) -> Term {
 fn one_unknown_anywhere() {
     let closure = Term::Allocated(0, vec![Term::Constructor(1)]);
     let mut tried = 0;
-    for (right, length) in [(false, 999), (true, 499)] {
+    for (right, length) in [(false, 999), (true, 500)] {
         let mut parts = vec![Term::Constructor(2); length];
         assert_eq!(standing(&vec![chain(&parts, right)], 0), Ok(Answer));
         for place in 0..length {
