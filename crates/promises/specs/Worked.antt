@@ -98,8 +98,8 @@ pub record HasRun (n : ℕ) (table : List ℕ) (count : ℕ) (work : List ℕ) (
 
 -- An accepted standing call: the table holds a good program with a thread k. One standing is told: answer exactly if the thread is built of constructors only,
 -- partial exactly if it is a value that holds a free variable or an allocated abstraction, stuck exactly if it is stuck by document 003's grammar, open exactly if
--- some rule of document 003 rewrites it. One of the first two is told exactly of the values, which were the answers before request 3. An answer is the same whatever is bound or
--- put in later.
+-- some rule of document 003 rewrites it. The first two are told exactly of the values, which were the answers before request 3. An answer is the same whatever is
+-- bound or put in later.
 pub record HasStood (n : ℕ) (table : List ℕ) (count k : ℕ) (v : Values) : Type 0 where
   pub thread : Tree term
   pub thread-of : ThreadOf n table count k thread
