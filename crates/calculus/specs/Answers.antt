@@ -1,11 +1,14 @@
--- What each case of every enum of src/ stands for: document 01's refusal numbers, atoms and values; for reasons and standings, which it does not number,
--- codes of our own.
+-- What each case of every enum of src/ stands for: document 01's refusal numbers, atoms and values; for reasons, rules and standings, which it does not
+-- number, codes of our own.
 use mathlib.Core.List.{List, [], _∷_}
 use Prim.Native.Nat.{ℕ}
 use Rattle.calculus.specs.declared.Refusal.{Refusal}
 use Rattle.calculus.specs.declared.Refusal.the-variants.{NoProgram, TooLong, NotCanonical, OutOfPlace, BadNumber, NoBinder, TooManyNodes, Incoherent, NoRoom, NoThread, Finished}
 use Rattle.calculus.specs.declared.Reason.{Reason}
 use Rattle.calculus.specs.declared.Reason.the-variants.{Ended, Steps, Room}
+use Rattle.calculus.specs.declared.Rule.{Rule}
+use Rattle.calculus.specs.declared.Rule.the-variants.{Alloc, Beta, Fresh, Guard, Unif, Fail}
+use Rattle.calculus.specs.declared.Counts.{Counts}
 use Rattle.calculus.specs.declared.Standing.{Standing}
 use Rattle.calculus.specs.declared.Standing.the-variants.{Answer, Stuck, Open, Partial}
 use Rattle.calculus.specs.declared.Counted.{Counted}
@@ -43,6 +46,14 @@ reasonCode Ended = 1
 reasonCode Steps = 2
 reasonCode Room = 3
 
+abbrev pub ruleCode : Rule → ℕ
+ruleCode Alloc = 1
+ruleCode Beta = 2
+ruleCode Fresh = 3
+ruleCode Guard = 4
+ruleCode Unif = 5
+ruleCode Fail = 6
+
 abbrev pub standingCode : Standing → ℕ
 standingCode Answer = 1
 standingCode Stuck = 2
@@ -59,15 +70,26 @@ abbrev pub countedValues : Counted → Values
 countedValues (counted.Count n) = record { refusal = 0; values = n ∷ [] }
 countedValues (counted.Refused r) = record { refusal = number r; values = 0 ∷ [] }
 
--- the nodes of the new program
-abbrev pub steppedValues : Stepped → Values
-steppedValues (stepped.Nodes n) = record { refusal = 0; values = n ∷ [] }
-steppedValues (stepped.Refused r) = record { refusal = number r; values = 0 ∷ [] }
+-- "a refused call returns zeros": of a step, and of a run
+abbrev pub refused-step : Refusal → Values
+refused-step r = record { refusal = number r; values = 0 ∷ 0 ∷ 0 ∷ [] }
 
--- the reason's code, the nodes of the end program, the steps taken
+abbrev pub refused-run : Refusal → Values
+refused-run r = record { refusal = number r; values = 0 ∷ 0 ∷ 0 ∷ 0 ∷ 0 ∷ 0 ∷ 0 ∷ 0 ∷ 0 ∷ [] }
+
+-- the nodes of the new program, the rule's code, the thread
+abbrev pub steppedValues : Stepped → Values
+steppedValues (stepped.Made n r k) = record { refusal = 0; values = n ∷ ruleCode r ∷ k ∷ [] }
+steppedValues (stepped.Refused r) = refused-step r
+
+-- the six counts, in document 01's order of the rules
+abbrev pub six : Counts → List ℕ
+six c = c .alloc ∷ c .beta ∷ c .fresh ∷ c .guard ∷ c .unif ∷ c .fail ∷ []
+
+-- the reason's code, the nodes of the end program, the steps taken, the six counts
 abbrev pub ranValues : Ran → Values
-ranValues (ran.Stopped r n k) = record { refusal = 0; values = reasonCode r ∷ n ∷ k ∷ [] }
-ranValues (ran.Refused r) = record { refusal = number r; values = 0 ∷ 0 ∷ 0 ∷ [] }
+ranValues (ran.Stopped r n k c) = record { refusal = 0; values = reasonCode r ∷ n ∷ k ∷ six c }
+ranValues (ran.Refused r) = refused-run r
 
 -- the standing's code
 abbrev pub stoodValues : Stood → Values

@@ -6,15 +6,17 @@ use mathlib.Core.List.{List, [], _∷_, _++_}
 use mathlib.Core.Option.{none, some}
 use Prim.Native.Nat.{ℕ, _+_, _*_, _-_, _≤_, _<_}
 use lib.ListN.{length, take, drop, replicate}
+use Rattle.calculus.specs.declared.Counts.{Counts}
 use Rattle.calculus.specs.declared.Refusal.{Refusal}
 use Rattle.calculus.specs.declared.Refusal.the-variants.{NoProgram, TooLong, NotCanonical, OutOfPlace, BadNumber, NoBinder, TooManyNodes, Incoherent, NoRoom, NoThread, Finished}
 use Rattle.calculus.specs.Tree.{term, program, Tree, preorder, nodes, threads, program-of}
 use Rattle.calculus.specs.Good.{InRange, Closed, Coherent, All}
 use Rattle.calculus.specs.Step.{Step, step, standing}
 use Rattle.calculus.specs.Run.{End, size, run, holds-nodes, room-of}
+use Rattle.calculus.specs.Tally.{run-counts}
 use Rattle.calculus.specs.Sexp.{one, Sexp, bytes}
 use Rattle.calculus.specs.Text.{Raw, raw-text, text}
-use Rattle.calculus.specs.Answers.{number, reasonCode, standingCode, Values}
+use Rattle.calculus.specs.Answers.{number, reasonCode, ruleCode, standingCode, Values, refused-step, refused-run, six}
 
 abbrev pub Refusals : Type 1
 Refusals = List (Refusal × Type 0)
@@ -81,8 +83,8 @@ nodes-before (t ∷ ts) = 1 + nodes t + nodes-before ts
 abbrev pub end-table : List ℕ → List (Tree term) → List ℕ
 end-table table ts = let l = preorder (program-of ts) in l ++ replicate (length table - length l) 0
 
-abbrev pub ran-values : End (List (Tree term)) → Values
-ran-values e = record { refusal = 0; values = reasonCode (e .reason) ∷ size (e .last) ∷ e .taken ∷ [] }
+abbrev pub ran-values : End (List (Tree term)) → Counts → Values
+ran-values e c = record { refusal = 0; values = reasonCode (e .reason) ∷ size (e .last) ∷ e .taken ∷ six c }
 
 module _ (n : ℕ) (table : List ℕ) (count : ℕ) where
   abbrev pub no-program : Refusal × Type 0
@@ -124,8 +126,8 @@ module _ (n : ℕ) (table : List ℕ) (count : ℕ) where
 
   -- what a single step into `out` returns, and what it leaves there
   pub data StepsInto (out : List ℕ) : Values → List ℕ → Type 0 where
-    stepped : (p : Tree program) (s : Step) → Accepts (step-refusals out) → StepsTo p s → StepsInto out (record { refusal = 0; values = size (s .result) ∷ [] }) (front (preorder (program-of (s .result))) out)
-    not-stepped : (r : Refusal) → Refuses (step-refusals out) r → StepsInto out (record { refusal = number r; values = 0 ∷ [] }) out
+    stepped : (p : Tree program) (s : Step) → Accepts (step-refusals out) → StepsTo p s → StepsInto out (record { refusal = 0; values = size (s .result) ∷ ruleCode (s .rule) ∷ s .thread ∷ [] }) (front (preorder (program-of (s .result))) out)
+    not-stepped : (r : Refusal) → Refuses (step-refusals out) r → StepsInto out (refused-step r) out
 
   abbrev pub run-refusals : List ℕ → Refusals
   run-refusals work = table-refusals ++ ((NoRoom, holds-nodes work < count) ∷ [])
@@ -133,8 +135,8 @@ module _ (n : ℕ) (table : List ℕ) (count : ℕ) where
   -- what a run with a work table returns, and what it leaves in the table and in the work table
   pub data RunsWith (work : List ℕ) (limit : ℕ) : Values → List ℕ → List ℕ → Type 0 where
     ran : (p : Tree program) → Accepts (run-refusals work) → TableOf n table count p →
-        RunsWith work limit (ran-values (run (room-of n table work) limit (threads p))) (end-table table (run (room-of n table work) limit (threads p) .last)) (replicate (length work) 0)
-    not-run : (r : Refusal) → Refuses (run-refusals work) r → RunsWith work limit (record { refusal = number r; values = 0 ∷ 0 ∷ 0 ∷ [] }) table work
+        RunsWith work limit (ran-values (run (room-of n table work) limit (threads p)) (run-counts (room-of n table work) limit (threads p))) (end-table table (run (room-of n table work) limit (threads p) .last)) (replicate (length work) 0)
+    not-run : (r : Refusal) → Refuses (run-refusals work) r → RunsWith work limit (refused-run r) table work
 
   abbrev pub thread-refusals : ℕ → Refusals
   thread-refusals k = table-refusals ++ ((NoThread, (p : Tree program) × (TableOf n table count p × (length (threads p) ≤ k))) ∷ [])

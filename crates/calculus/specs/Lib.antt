@@ -12,6 +12,7 @@ pub mod Answers
 pub mod Step
 pub mod Choice
 pub mod Run
+pub mod Tally
 pub mod Sexp
 pub mod Text
 pub mod Calls

@@ -1,6 +1,8 @@
 // The number types and the answers that the calls share. What they mean stands in specs/Answers.antt.
 ghost use mathlib.Core.Path.{_≡_};
-ghost use Rattle.calculus.specs.Answers.{number, reasonCode, standingCode};
+ghost use Prim.Native.Nat.{_<_};
+ghost use Rattle.calculus.specs.Answers.{number, reasonCode, ruleCode, standingCode};
+ghost use Rattle.calculus.specs.Tally.{count-of, one-more};
 
 // Document 003 keeps variables, locations and constructors as three disjoint sets: a number of one never stands for a number of another.
 pub struct Var(pub u16);
@@ -31,6 +33,27 @@ pub enum Reason {
     Room,
 }
 
+// The six rules, in document 01's order.
+pub enum Rule {
+    Alloc,
+    Beta,
+    Fresh,
+    Guard,
+    Unif,
+    Fail,
+}
+
+// How many steps each rule has made.
+#[repr(C)]
+pub struct Counts {
+    pub alloc: u32,
+    pub beta: u32,
+    pub fresh: u32,
+    pub guard: u32,
+    pub unif: u32,
+    pub fail: u32,
+}
+
 // How a thread stands, in the order of the codes: `Partial` came with request 3.
 pub enum Standing {
     Answer,
@@ -45,16 +68,15 @@ pub enum Counted {
     Refused(Refusal),
 }
 
-// What a step answers: the nodes of the new program.
-// A type of its own beside `Counted`: a step and a read are not mixed up.
+// What a step answers: the nodes of the new program, the rule, and the thread, by its number from 0 in the program before the step.
 pub enum Stepped {
-    Nodes(usize),
+    Made(usize, Rule, u32),
     Refused(Refusal),
 }
 
-// What a run answers: its reason, the nodes of the end program, the steps taken.
+// What a run answers: its reason, the nodes of the end program, the steps taken, and how many of them each rule made.
 pub enum Ran {
-    Stopped(Reason, usize, u32),
+    Stopped(Reason, usize, u32, Counts),
     Refused(Refusal),
 }
 
@@ -94,6 +116,20 @@ pub fn reason_code(x: Reason) -> u16
     }
 }
 
+// The code of a rule, for callers in C.
+pub fn rule_code(x: Rule) -> u16
+    ensures { λ r. ⌜ r ≡ ruleCode x ⌝ }
+{
+    match x {
+        Rule::Alloc => 1,
+        Rule::Beta => 2,
+        Rule::Fresh => 3,
+        Rule::Guard => 4,
+        Rule::Unif => 5,
+        Rule::Fail => 6,
+    }
+}
+
 // The code of a standing, for callers in C.
 pub fn standing_code(x: Standing) -> u16
     ensures { λ r. ⌜ r ≡ standingCode x ⌝ }
@@ -104,4 +140,21 @@ pub fn standing_code(x: Standing) -> u16
         Standing::Open => 3,
         Standing::Partial => 4,
     }
+}
+
+// One more step by a rule.
+pub fn one_more(counts: Counts, by: Rule) -> Counts
+    requires { ⌜ count-of by counts < 4294967295 ⌝ }
+    ensures { λ r. ⌜ r ≡ one-more counts by ⌝ }
+{
+    let mut c = counts;
+    match by {
+        Rule::Alloc => c.alloc += 1,
+        Rule::Beta => c.beta += 1,
+        Rule::Fresh => c.fresh += 1,
+        Rule::Guard => c.guard += 1,
+        Rule::Unif => c.unif += 1,
+        Rule::Fail => c.fail += 1,
+    }
+    c
 }

@@ -84,7 +84,7 @@ fn put_run(count: usize, table: &mut [u16], out: &mut [u8]) -> usize
 {
     let mut work = [0u16; NUMBERS];
     match mespindro::run(table, count, &mut work, STEP_LIMIT) {
-        Ran::Stopped(reason, nodes, steps) => put_end(reason, steps as u16, table, nodes, out),
+        Ran::Stopped(reason, nodes, steps, _) => put_end(reason, steps as u16, table, nodes, out),
         // cannot be: what was read is run
         Ran::Refused(r) => put_refusal(r, out),
     }

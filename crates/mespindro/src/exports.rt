@@ -4,13 +4,15 @@ ghost use Rattle.calculus.specs.Answers.{countedValues, ranValues, steppedValue
 ghost use Rattle.calculus.specs.Calls.{Reads, RunsWith, StandsAt, StepsInto, Writes};
 ghost use Rattle.table.specs.Threads.{SpanOf};
 ghost use Rattle.mespindro.specs.Limit.{limit};
-ghost use Rattle.mespindro.specs.Exports.{countValues, standValues, stopValues};
+ghost use Rattle.mespindro.specs.Exports.{countValues, moveValues, standValues, stopValues};
 use calculus::Counted;
+use calculus::Counts;
 use calculus::Ran;
 use calculus::Stepped;
 use calculus::Stood;
 use calculus::reason_code;
 use calculus::refusal_number;
+use calculus::rule_code;
 use calculus::standing_code;
 
 // How many nodes or bytes stand at the front of the output; 0 and a refusal's number.
@@ -20,11 +22,21 @@ pub struct Count {
     pub refusal: u16,
 }
 
-// Why a run stopped, the nodes it left, the steps taken; or a refusal's number.
+// What a step made: the nodes of the new program, by which rule, in which thread; zeros and a refusal's number.
+#[repr(C)]
+pub struct Move {
+    pub nodes: usize,
+    pub thread: u32,
+    pub rule: u16,
+    pub refusal: u16,
+}
+
+// Why a run stopped, the nodes it left, the steps taken and how many each rule made; zeros and a refusal's number.
 #[repr(C)]
 pub struct Stop {
     pub nodes: usize,
     pub steps: u32,
+    pub counts: Counts,
     pub reason: u16,
     pub refusal: u16,
 }
@@ -58,16 +70,20 @@ fn count_of(x: Counted) -> Count
     }
 }
 
-fn step_count_of(x: Stepped) -> Count
-    ensures { λ r. ⌜ countValues r ≡ steppedValues x ⌝ }
+fn move_of(x: Stepped) -> Move
+    ensures { λ r. ⌜ moveValues r ≡ steppedValues x ⌝ }
 {
     match x {
-        Stepped::Nodes(n) => Count {
-            count: n,
+        Stepped::Made(nodes, rule, thread) => Move {
+            nodes,
+            thread,
+            rule: rule_code(rule),
             refusal: 0,
         },
-        Stepped::Refused(r) => Count {
-            count: 0,
+        Stepped::Refused(r) => Move {
+            nodes: 0,
+            thread: 0,
+            rule: 0,
             refusal: refusal_number(r),
         },
     }
@@ -77,15 +93,24 @@ fn stop_of(x: Ran) -> Stop
     ensures { λ r. ⌜ stopValues r ≡ ranValues x ⌝ }
 {
     match x {
-        Ran::Stopped(reason, nodes, steps) => Stop {
+        Ran::Stopped(reason, nodes, steps, counts) => Stop {
             nodes,
             steps,
+            counts,
             reason: reason_code(reason),
             refusal: 0,
         },
         Ran::Refused(r) => Stop {
             nodes: 0,
             steps: 0,
+            counts: Counts {
+                alloc: 0,
+                beta: 0,
+                fresh: 0,
+                guard: 0,
+                unif: 0,
+                fail: 0,
+            },
             reason: 0,
             refusal: refusal_number(r),
         },
@@ -122,10 +147,10 @@ pub extern "C" fn mespindro_write(table: &[u16], count: usize, out: &mut [u8]) -
 }
 
 #[no_mangle]
-pub extern "C" fn mespindro_step(table: &[u16], count: usize, out: &mut [u16]) -> Count
-    ensures { λ r. ⌜ StepsInto limit (now (table .entry)) count (now (out .entry)) (countValues r) (now (out .exit)) ⌝ }
+pub extern "C" fn mespindro_step(table: &[u16], count: usize, out: &mut [u16]) -> Move
+    ensures { λ r. ⌜ StepsInto limit (now (table .entry)) count (now (out .entry)) (moveValues r) (now (out .exit)) ⌝ }
 {
-    step_count_of(crate::step(table, count, out))
+    move_of(crate::step(table, count, out))
 }
 
 #[no_mangle]

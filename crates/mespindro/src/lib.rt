@@ -39,7 +39,7 @@ pub fn write(table: &[u16], count: usize, out: &mut [u8]) -> Counted
     writing::store::write(table, count, out, LIMIT, &mut scratch)
 }
 
-// Makes a single step of the program in a table: the new program's nodes at the front of the output, or 1, 6, 7, 8, 9, 11.
+// Makes a single step of the program in a table: the new program's nodes at the front of the output, the rule and the thread; or 1, 6, 7, 8, 9, 11.
 pub fn step(table: &[u16], count: usize, out: &mut [u16]) -> Stepped
     ensures { λ r. ⌜ StepsInto limit (now (table .entry)) count (now (out .entry)) (steppedValues r) (now (out .exit)) ⌝ }
 {
@@ -48,7 +48,8 @@ pub fn step(table: &[u16], count: usize, out: &mut [u16]) -> Stepped
     step::single::step(table, count, out, LIMIT, &mut links, &mut sizes)
 }
 
-// Runs the program in a table for at most `most` steps: why it stopped, the nodes it left in the table, the steps taken; or 1, 6, 8, 9.
+// Runs the program in a table for at most `most` steps: why it stopped, the nodes it left in the table, the steps taken and how many each rule made;
+// or 1, 6, 8, 9.
 pub fn run(table: &mut [u16], count: usize, work: &mut [u16], most: u32) -> Ran
     ensures { λ r. ⌜ RunsWith limit (now (table .entry)) count (now (work .entry)) most (ranValues r) (now (table .exit)) (now (work .exit)) ⌝ }
 {
