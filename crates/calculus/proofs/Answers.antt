@@ -5,13 +5,16 @@ use mathlib.Core.List.{List, [], _∷_}
 use Prim.Native.Nat.{ℕ, _≤_, _<_}
 use native.Mathlib.Omega.{arith}
 use lib.Dec.{eqb}
-use lib.ListN.{getD}
+use lib.ListN.{getD, drop}
 use Rattle.calculus.specs.declared.Refusal.{Refusal}
 use Rattle.calculus.specs.declared.Refusal.the-variants.{NoProgram, TooLong, NotCanonical, OutOfPlace, BadNumber, NoBinder, TooManyNodes, Incoherent, NoRoom, NoThread, Finished}
 use Rattle.calculus.specs.declared.Reason.{Reason}
 use Rattle.calculus.specs.declared.Reason.the-variants.{Ended, Steps, Room}
+use Rattle.calculus.specs.declared.Rule.{Rule}
+use Rattle.calculus.specs.declared.Rule.the-variants.{Alloc, Beta, Fresh, Guard, Unif, Fail}
 use Rattle.calculus.specs.declared.Standing.{Standing}
 use Rattle.calculus.specs.declared.Standing.the-variants.{Answer, Stuck, Open, Partial}
+use Rattle.calculus.specs.declared.Counts.{Counts}
 use Rattle.calculus.specs.declared.Counted.{Counted}
 use Rattle.calculus.specs.declared.Counted.the-variants as counted
 use Rattle.calculus.specs.declared.Stepped.{Stepped}
@@ -20,7 +23,7 @@ use Rattle.calculus.specs.declared.Ran.{Ran}
 use Rattle.calculus.specs.declared.Ran.the-variants as ran
 use Rattle.calculus.specs.declared.Stood.{Stood}
 use Rattle.calculus.specs.declared.Stood.the-variants as stood
-use Rattle.calculus.specs.Answers.{number, reasonBytes, reasonCode, standingCode, Values, countedValues, steppedValues, ranValues, stoodValues}
+use Rattle.calculus.specs.Answers.{number, reasonBytes, reasonCode, ruleCode, standingCode, Values, countedValues, steppedValues, six, ranValues, stoodValues}
 
 -- the refusal numbers are 1 to 11
 number-range : (r : Refusal) → (0 < number r) × (number r ≤ 11)
@@ -95,6 +98,31 @@ reason-of-atom Room = refl
 pub reason-bytes-injective : (r q : Reason) → reasonBytes r ≡ reasonBytes q → r ≡ q
 reason-bytes-injective = told-apart reasonBytes reason-of-bytes reason-of-atom
 
+-- the rule of a code
+abbrev rule-of : ℕ → Rule
+rule-of k = getD (Alloc ∷ Alloc ∷ Beta ∷ Fresh ∷ Guard ∷ Unif ∷ Fail ∷ []) k Alloc
+
+rule-of-code : (r : Rule) → rule-of (ruleCode r) ≡ r
+rule-of-code Alloc = refl
+rule-of-code Beta = refl
+rule-of-code Fresh = refl
+rule-of-code Guard = refl
+rule-of-code Unif = refl
+rule-of-code Fail = refl
+
+-- a code is that of one rule
+pub rule-injective : (r q : Rule) → ruleCode r ≡ ruleCode q → r ≡ q
+rule-injective = told-apart ruleCode rule-of rule-of-code
+
+-- the codes begin with 1: 0 stands for a refused call
+pub rule-positive : (r : Rule) → 0 < ruleCode r
+rule-positive Alloc = omega arith
+rule-positive Beta = omega arith
+rule-positive Fresh = omega arith
+rule-positive Guard = omega arith
+rule-positive Unif = omega arith
+rule-positive Fail = omega arith
+
 -- the standing of a code
 abbrev standing-of : ℕ → Standing
 standing-of k = getD (Answer ∷ Answer ∷ Stuck ∷ Open ∷ Partial ∷ []) k Answer
@@ -125,16 +153,24 @@ counted-once (counted.Refused r) (counted.Refused q) e = ap counted.Refused (num
 
 -- of a step
 pub stepped-once : (x y : Stepped) → steppedValues x ≡ steppedValues y → x ≡ y
-stepped-once (stepped.Nodes n) (stepped.Nodes m) e = ap stepped.Nodes (same-value 0 e)
-stepped-once (stepped.Nodes n) (stepped.Refused r) e = absurd (omega (arith, number-positive r, same-refusal e))
-stepped-once (stepped.Refused r) (stepped.Nodes n) e = absurd (omega (arith, number-positive r, same-refusal e))
+stepped-once (stepped.Made n r k) (stepped.Made m q j) e = rw (same-value 0 e, rule-injective r q (same-value 1 e), same-value 2 e)
+stepped-once (stepped.Made n q k) (stepped.Refused r) e = absurd (omega (arith, number-positive r, same-refusal e))
+stepped-once (stepped.Refused r) (stepped.Made n q k) e = absurd (omega (arith, number-positive r, same-refusal e))
 stepped-once (stepped.Refused r) (stepped.Refused q) e = ap stepped.Refused (number-injective r q (same-refusal e))
+
+-- the counts of six numbers
+abbrev counts-of : List ℕ → Counts
+counts-of l = record { alloc = getD l 0 0; beta = getD l 1 0; fresh = getD l 2 0; guard = getD l 3 0; unif = getD l 4 0; fail = getD l 5 0 }
+
+-- six numbers are those of one struct
+pub six-injective : (c d : Counts) → six c ≡ six d → c ≡ d
+six-injective = told-apart six counts-of (λ c. refl)
 
 -- of a run
 pub ran-once : (x y : Ran) → ranValues x ≡ ranValues y → x ≡ y
-ran-once (ran.Stopped r n k) (ran.Stopped q m j) e = rw (reason-injective r q (same-value 0 e), same-value 1 e, same-value 2 e)
-ran-once (ran.Stopped r n k) (ran.Refused q) e = absurd (omega (arith, number-positive q, same-refusal e))
-ran-once (ran.Refused r) (ran.Stopped q n k) e = absurd (omega (arith, number-positive r, same-refusal e))
+ran-once (ran.Stopped r n k c) (ran.Stopped q m j d) e = rw (reason-injective r q (same-value 0 e), same-value 1 e, same-value 2 e, six-injective c d (ap (λ (v : Values). drop 3 (v .values)) e))
+ran-once (ran.Stopped r n k c) (ran.Refused q) e = absurd (omega (arith, number-positive q, same-refusal e))
+ran-once (ran.Refused r) (ran.Stopped q n k c) e = absurd (omega (arith, number-positive r, same-refusal e))
 ran-once (ran.Refused r) (ran.Refused q) e = ap ran.Refused (number-injective r q (same-refusal e))
 
 -- of the standing call

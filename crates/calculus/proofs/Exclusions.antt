@@ -7,12 +7,12 @@ use Prim.Native.Nat.{ℕ, _≤_}
 use native.Mathlib.Omega.{arith}
 use lib.ListN.{getD}
 use Rattle.calculus.specs.declared.Reason.the-variants.{Ended}
+use Rattle.calculus.specs.declared.Rule.the-variants.{Beta, Fresh}
 use Rattle.calculus.specs.Tree.{term, program, app, guard, unif, code, at, Tree, empty, alt, bound, free, con, abs, fresh, two, ok, preorder, nodes, threads, program-of, uses, stored}
 use Rattle.calculus.specs.Put.{put-in, substitute}
 use Rattle.calculus.specs.Value.{single, structure, value}
 use Rattle.calculus.specs.Unify.{one, all, shape, takes, carry, meet, solve, unify}
 use Rattle.calculus.specs.Redex.{plug, own, redexes}
-use Rattle.calculus.specs.Reduction.{by-beta, by-fresh}
 use Rattle.calculus.specs.Step.{least-from, variable-for, location-for, rewriting, first, step-thread, Step, step, finished}
 use Rattle.calculus.specs.Run.{End, size, run-of, next-program, run}
 use Rattle.calculus.specs.Known.{only}
@@ -27,7 +27,7 @@ abbrev whole : List (Tree term) → End (List (Tree term))
 whole ts = run 2048 10000 ts
 
 -- `((n b0))` has a step, and it gives `(x0)`
-pub step-accepts : step (fresh (bound 0) ∷ []) ≡ some (record { rule = by-fresh; thread = 0; result = free 0 ∷ [] })
+pub step-accepts : step (fresh (bound 0) ∷ []) ≡ some (record { rule = Fresh; thread = 0; result = free 0 ∷ [] })
 unfolding substitute nodes uses put-in plug own redexes least-from variable-for rewriting first step-thread step
 step-accepts = refl
 
@@ -57,7 +57,7 @@ abbrev pub self-application : Tree term
 self-application = let w : Tree term = abs (at 0) (only (two app (bound 0) (bound 0))) in two app w w
 
 -- but a step may return its input: do not ask that none does
-pub self-application-returns : step (self-application ∷ []) ≡ some (record { rule = by-beta; thread = 0; result = self-application ∷ [] })
+pub self-application-returns : step (self-application ∷ []) ≡ some (record { rule = Beta; thread = 0; result = self-application ∷ [] })
 unfolding substitute threads put-in single structure value plug own redexes rewriting first step-thread step
 self-application-returns = refl
 

@@ -8,9 +8,10 @@ use lib.ListN.{length}
 use Rattle.calculus.specs.declared.Refusal.{Refusal}
 use Rattle.calculus.specs.Tree.{term, program, Tree, nodes, preorder, threads, program-of}
 use Rattle.calculus.specs.Step.{Step, step, standing}
-use Rattle.calculus.specs.Run.{End, size, run, room-of}
+use Rattle.calculus.specs.Run.{size, run, room-of}
+use Rattle.calculus.specs.Tally.{run-counts}
 use Rattle.calculus.specs.Text.{text}
-use Rattle.calculus.specs.Answers.{number, standingCode, Values}
+use Rattle.calculus.specs.Answers.{number, ruleCode, standingCode, Values, refused-step, refused-run}
 use Rattle.calculus.specs.Calls.{front, read-refusals, TextOf, Reads, read, refused, TableOf, write-refusals, Writes, written, not-written, StepsTo, step-refusals, StepsInto, stepped, not-stepped, run-refusals, end-table, ran-values, RunsWith, ran, not-run, thread-refusals, ThreadOf, StandsAt, stands, not-stood, nodes-before, PartAt, part, no-part}
 use Rattle.calculus.proofs.Preorders.{preorder-injective, threads-of-program}
 use Rattle.calculus.proofs.Texts.{text-injective}
@@ -60,19 +61,20 @@ module _ {n : ℕ} {table : List ℕ} {count : ℕ} where
   steps-to-unique {s = s} {r} h k = Option·some-injective s r (sym (h .steps) ∙ ap (λ (x : Tree program). step (threads x)) (table-of-unique (h .table-of) (k .table-of)) ∙ k .steps)
 
   pub steps-once : {out : List ℕ} {v w : Values} {o u : List ℕ} → StepsInto n table count out v o → StepsInto n table count out w u → Same v w o u
-  steps-once {out} (stepped p s a t) (stepped q r c k) = both (λ (x : Step). record { refusal = 0; values = size (x .result) ∷ [] }) (λ (x : Step). front (preorder (program-of (x .result))) out) (steps-to-unique t k)
+  steps-once {out} (stepped p s a t) (stepped q r c k) = both (λ (x : Step). record { refusal = 0; values = size (x .result) ∷ ruleCode (x .rule) ∷ x .thread ∷ [] }) (λ (x : Step). front (preorder (program-of (x .result))) out) (steps-to-unique t k)
   steps-once {out} (stepped p s a t) (not-stepped r g) = absurd (accepted-not-refused (step-refusals n table count out) r a g)
   steps-once {out} (not-stepped r g) (stepped p s a t) = absurd (accepted-not-refused (step-refusals n table count out) r a g)
-  steps-once {out} (not-stepped r g) (not-stepped q h) = (ap (λ (x : Refusal). record { refusal = number x; values = 0 ∷ [] }) (one-refusal (step-refusals n table count out) r q g h), refl)
+  steps-once {out} (not-stepped r g) (not-stepped q h) = (ap refused-step (one-refusal (step-refusals n table count out) r q g h), refl)
 
   -- the table and the work table
   pub runs-once : {work : List ℕ} {limit : ℕ} {v w : Values} {o u x y : List ℕ} → RunsWith n table count work limit v o x → RunsWith n table count work limit w u y → (v ≡ w) × (o ≡ u) × (x ≡ y)
   runs-once {work} {limit} (ran p a t) (ran q c k) =
-      let e : run (room-of n table work) limit (threads p) ≡ run (room-of n table work) limit (threads q) = ap (λ (x : Tree program). run (room-of n table work) limit (threads x)) (table-of-unique t k) in
-      (ap ran-values e, ap (λ (x : End (List (Tree term))). end-table table (x .last)) e, refl)
+      let room = room-of n table work in
+      let e = table-of-unique t k in
+      (ap (λ (x : Tree program). ran-values (run room limit (threads x)) (run-counts room limit (threads x))) e, ap (λ (x : Tree program). end-table table (run room limit (threads x) .last)) e, refl)
   runs-once {work} (ran p a t) (not-run r g) = absurd (accepted-not-refused (run-refusals n table count work) r a g)
   runs-once {work} (not-run r g) (ran p a t) = absurd (accepted-not-refused (run-refusals n table count work) r a g)
-  runs-once {work} (not-run r g) (not-run q h) = (ap (λ (x : Refusal). record { refusal = number x; values = 0 ∷ 0 ∷ 0 ∷ [] }) (one-refusal (run-refusals n table count work) r q g h), refl, refl)
+  runs-once {work} (not-run r g) (not-run q h) = (ap refused-run (one-refusal (run-refusals n table count work) r q g h), refl, refl)
 
   -- there is one thread of a number, with the same threads before it
   thread-of-unique : {k : ℕ} {t u : Tree term} (h : ThreadOf n table count k t) (i : ThreadOf n table count k u) → (t ≡ u) × (h .before ≡ i .before)

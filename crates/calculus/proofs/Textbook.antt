@@ -6,11 +6,12 @@ use Prim.Native.Nat.{ℕ, suc, pred}
 use native.Mathlib.Omega.{arith}
 use lib.Dec.{eqb, ltb}
 use borrow.Author.Tests.{ltb-true, ltb-false, lt-ltb, eq-eqb, ne-eqb}
+use Rattle.calculus.specs.declared.Rule.{Rule}
 use Rattle.calculus.specs.Tree.{Sort, term, app, at, Tree, empty, alt, bound, free, con, abs, fresh, two, ok, threads}
 use Rattle.calculus.specs.Good.{Closed}
 use Rattle.calculus.specs.Put.{put-in, substitute, raise, instantiate}
 use Rattle.calculus.specs.Redex.{Weak, plug}
-use Rattle.calculus.specs.Reduction.{Rule, Rewrites, alloc, beta, fresh-variable, guard-passed, unified, failed}
+use Rattle.calculus.specs.Reduction.{Rewrites, alloc, beta, fresh-variable, guard-passed, unified, failed}
 use Rattle.calculus.proofs.PutIns.{closed-plug-out}
 
 -- where every index has its binder, raising the loose ones changes nothing
