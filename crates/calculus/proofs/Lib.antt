@@ -21,6 +21,7 @@ pub mod Wholes
 pub mod Steps
 pub mod Standings
 pub mod Preservation
+pub mod Tallies
 pub mod Machines
 pub mod Runs
 pub mod Exclusions
