@@ -13,13 +13,14 @@ use Rattle.calculus.specs.Redex.{plug, own, redexes}
 use Rattle.calculus.specs.Whole.{whole}
 use Rattle.calculus.specs.Step.{least-from, variable-for, location-for, rewriting, first, step-thread, step, finished, standing}
 use Rattle.calculus.specs.Run.{run-of, next-program, run}
+use Rattle.calculus.specs.Tally.{next-tally, counted-run, run-counts}
 use Rattle.calculus.specs.Sexp.{digits, decimal, bytes}
 use Rattle.calculus.specs.Text.{encode, raw, raw-text, text}
 use Rattle.calculus.specs.Known.{ascii, found, expected, AllRight, starred, others}
 
 -- the twelve marked rows
 pub starred-right : AllRight starred
-unfolding starred found expected ascii preorder nodes threads program-of uses stored put-in substitute single structure value one all shape takes carry meet solve unify plug own redexes least-from variable-for location-for rewriting first step-thread step finished whole standing run-of next-program run digits decimal bytes encode raw raw-text text bind
+unfolding starred found expected ascii preorder nodes threads program-of uses stored put-in substitute single structure value one all shape takes carry meet solve unify plug own redexes least-from variable-for location-for rewriting first step-thread step finished whole standing run-of next-program run next-tally counted-run run-counts digits decimal bytes encode raw raw-text text bind
 starred-right = refl
 
 pub starred-are-twelve : length starred ≡ 12
@@ -28,7 +29,7 @@ starred-are-twelve = refl
 
 -- the other rows of document 01, worked examples of document 003, and the README's rule set
 pub others-right : AllRight others
-unfolding others found expected ascii preorder nodes threads program-of uses stored put-in substitute single structure value one all shape takes carry meet solve unify plug own redexes least-from variable-for location-for rewriting first step-thread step finished whole standing run-of next-program run digits decimal bytes encode raw raw-text text bind
+unfolding others found expected ascii preorder nodes threads program-of uses stored put-in substitute single structure value one all shape takes carry meet solve unify plug own redexes least-from variable-for location-for rewriting first step-thread step finished whole standing run-of next-program run next-tally counted-run run-counts digits decimal bytes encode raw raw-text text bind
 others-right = refl
 
 -- document 01's two examples of what the program writes
