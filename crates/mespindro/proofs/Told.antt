@@ -2,12 +2,17 @@
 use mathlib.Core.Path.{_≡_, sym, ap, subst}
 use mathlib.Core.List.{List, [], _∷_}
 use Prim.Native.Nat.{ℕ}
-use Rattle.calculus.specs.Answers.{Values}
+use Rattle.calculus.specs.declared.Counts.{Counts}
+use Rattle.calculus.specs.Answers.{Values, six}
 use Rattle.calculus.specs.Calls.{Reads, Writes, StepsInto, RunsWith, StandsAt}
 
--- equal codes, equal values of a run
-pub stopped-told : {c d nodes steps : ℕ} → c ≡ d → _≡_ {A = Values} (record { refusal = 0; values = c ∷ nodes ∷ steps ∷ [] }) (record { refusal = 0; values = d ∷ nodes ∷ steps ∷ [] })
-stopped-told {nodes = nodes} {steps} e = ap (λ (m : ℕ). record { refusal = 0; values = m ∷ nodes ∷ steps ∷ [] }) e
+-- equal codes, equal values of a step
+pub moved-told : {c d nodes thread : ℕ} → c ≡ d → _≡_ {A = Values} (record { refusal = 0; values = nodes ∷ c ∷ thread ∷ [] }) (record { refusal = 0; values = nodes ∷ d ∷ thread ∷ [] })
+moved-told {nodes = nodes} {thread} e = ap (λ (m : ℕ). record { refusal = 0; values = nodes ∷ m ∷ thread ∷ [] }) e
+
+-- and of a run
+pub stopped-told : {c d nodes steps : ℕ} {counts : Counts} → c ≡ d → _≡_ {A = Values} (record { refusal = 0; values = c ∷ nodes ∷ steps ∷ six counts }) (record { refusal = 0; values = d ∷ nodes ∷ steps ∷ six counts })
+stopped-told {nodes = nodes} {steps} {counts} e = ap (λ (m : ℕ). record { refusal = 0; values = m ∷ nodes ∷ steps ∷ six counts }) e
 
 module _ {n : ℕ} {v w : Values} (e : v ≡ w) where
   pub reads-told : {b out o : List ℕ} → Reads n b out w o → Reads n b out v o

@@ -2,14 +2,18 @@
 use mathlib.Core.List.{[], _∷_}
 use Rattle.calculus.specs.Answers.{Values}
 use Rattle.mespindro.specs.declared.exports.Count.{Count}
+use Rattle.mespindro.specs.declared.exports.Move.{Move}
 use Rattle.mespindro.specs.declared.exports.Stop.{Stop}
 use Rattle.mespindro.specs.declared.exports.Stand.{Stand}
 
 abbrev pub countValues : Count → Values
 countValues r = record { refusal = r .refusal; values = r .count ∷ [] }
 
+abbrev pub moveValues : Move → Values
+moveValues r = record { refusal = r .refusal; values = r .nodes ∷ r .rule ∷ r .thread ∷ [] }
+
 abbrev pub stopValues : Stop → Values
-stopValues r = record { refusal = r .refusal; values = r .reason ∷ r .nodes ∷ r .steps ∷ [] }
+stopValues r = record { refusal = r .refusal; values = r .reason ∷ r .nodes ∷ r .steps ∷ r .counts .alloc ∷ r .counts .beta ∷ r .counts .fresh ∷ r .counts .guard ∷ r .counts .unif ∷ r .counts .fail ∷ [] }
 
 abbrev pub standValues : Stand → Values
 standValues r = record { refusal = r .refusal; values = r .standing ∷ [] }

@@ -7,14 +7,14 @@ use Rattle.mespindro.proofs.exports.mespindro_step.Tie as tie
 step-requires : tie.Need-step-requires
 step-requires c κs = search needs
 
-step-count-of-requires : tie.Need-step-count-of-requires
-step-count-of-requires c κs = search needs
+move-of-requires : tie.Need-move-of-requires
+move-of-requires c κs = search needs
 
 same-length : tie.Need-same-length
 same-length c = search needs
 
 returns : tie.Need-returns
-returns c = steps-told (c .step-count-of .ensures) (c .before .before .before .step .ensures)
+returns c = steps-told (c .move-of .ensures) (c .before .before .before .step .ensures)
 
 pub mespindro-step-spec : {M : Type 1} → statement M
-mespindro-step-spec = tie.close (tie.spec step-requires step-count-of-requires same-length returns)
+mespindro-step-spec = tie.close (tie.spec step-requires move-of-requires same-length returns)

@@ -24,7 +24,7 @@ returns : tie.Need-returns
 returns c = stopped-told (c .reason-code .ensures) ∙ sym (ap ranValues (c .before .before .x .given .1))
 
 returns-2 : tie.Need-returns-2
-returns-2 c = ap (λ (m : ℕ). record { refusal = m; values = 0 ∷ 0 ∷ 0 ∷ [] }) (c .refusal-number .ensures) ∙ sym (ap ranValues (c .before .before .x2 .given .1))
+returns-2 c = ap (λ (m : ℕ). record { refusal = m; values = 0 ∷ 0 ∷ 0 ∷ 0 ∷ 0 ∷ 0 ∷ 0 ∷ 0 ∷ 0 ∷ [] }) (c .refusal-number .ensures) ∙ sym (ap ranValues (c .before .before .x2 .given .1))
 
 pub stop-of-spec : {M : Type 1} → statement M
 stop-of-spec =
