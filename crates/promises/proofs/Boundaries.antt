@@ -2,7 +2,7 @@
 use mathlib.Core.Path.{_≡_, refl, sym, ap, _∙_}
 use mathlib.Core.Logic.{inl, inr}
 use mathlib.Core.List.{List, [], _∷_, _++_, append-assoc, append-nil, tail-eq-of-cons-eq}
-use mathlib.Core.Option.{some}
+use mathlib.Core.Option.{some, bind}
 use Prim.Native.Nat.{ℕ, zero, suc, _+_, _*_, _≤_, _<_}
 use native.Mathlib.Omega.{arith}
 use lib.ListN.{length, take, length-append}
@@ -13,10 +13,13 @@ use Rattle.calculus.specs.Tree.{term, program, app, guard, unif, code, at, Tree
 use Rattle.calculus.specs.Good.{InRange, Closed, Coherent, All, Good}
 use Rattle.calculus.specs.Put.{put-in, substitute}
 use Rattle.calculus.specs.Value.{single, structure, value}
+use Rattle.calculus.specs.Unify.{shape, carry, meet, solve, unify}
 use Rattle.calculus.specs.Redex.{plug, own, redexes}
-use Rattle.calculus.specs.Reduction.{by-beta, by-guard}
+use Rattle.calculus.specs.declared.Rule.the-variants.{Beta, Guard, Fail}
+use Rattle.calculus.specs.declared.Counts.{Counts}
 use Rattle.calculus.specs.Step.{rewriting, first, step-thread, Step, step}
-use Rattle.calculus.specs.Run.{size, later, next-program, run, holds-nodes, room-of}
+use Rattle.calculus.specs.Run.{size, holds-nodes, room-of}
+use Rattle.calculus.specs.Tally.{no-counts, uncounted, counted-run}
 use Rattle.calculus.specs.Sexp.{one, digits, decimal, Sexp, atom, list, nothing, more, bytes}
 use Rattle.calculus.specs.Text.{Raw, free-leaf, raw-empty, raw-alt, raw-leaf, encode, raw, raw-text, text}
 use Rattle.calculus.specs.Answers.{number, Values}
@@ -27,17 +30,16 @@ use Rattle.calculus.proofs.Preorders.{nodes-positive, preorder-injective}
 use Rattle.calculus.proofs.Decimals.{PlainDecimal, decimal-plain, decimal-first}
 use Rattle.calculus.proofs.Bytes.{first-byte, bytes-injective}
 use Rattle.calculus.proofs.Texts.{raw-text-injective, text-injective}
-use Rattle.calculus.proofs.Machines.{run-ended, run-full, run-large, run-goes}
-use Rattle.calculus.proofs.Runs.{next-of}
+use Rattle.calculus.proofs.Tallies.{counted-ended, counted-full, counted-large}
 use Rattle.calculus.proofs.Refusals.{read-ascends}
 use Rattle.calculus.proofs.Outcomes.{text-of-unique, parts-once}
 use Rattle.mespindro.specs.Limit.{limit}
-use Rattle.promises.specs.Boundaries.{ReadGives, fresh-text, nested, fresh-numbers, ReadBoundaries, CallsGive, CallsAccept, TableBoundaries, fresh-over, closure, put-into, twice, twice-and-one, CallBoundaries, RunBoundaries}
+use Rattle.promises.specs.Boundaries.{ReadGives, fresh-text, nested, fresh-numbers, ReadBoundaries, CallsGive, CallsAccept, TableBoundaries, fresh-over, closure, put-into, twice, twice-and-one, CallBoundaries, no-step, one-beta, RunBoundaries}
 use Rattle.promises.proofs.Admitted.{good-table, good-read-only}
 use Rattle.promises.proofs.Refused.{refused-above, reads-exactly, writes-exactly, steps-exactly, runs-exactly, stands-exactly}
 use Rattle.promises.proofs.Worked.{front-held, front-table, reads-iff, writes-iff, table-step, good-steps, good-stopped, run-gives, good-runs, good-writes}
 use Rattle.promises.proofs.Heads.{stands-accepted}
-use Rattle.promises.proofs.Excluded.{closures, OneAtMost, one-good, two-coherent, runs-to}
+use Rattle.promises.proofs.Excluded.{closures, OneAtMost, one-good, two-coherent, stopped, runs-to, goes-on}
 
 -- a list of refusals without its first
 abbrev behind : Refusals → Refusals
@@ -425,13 +427,13 @@ guarded-good : Good limit (program-of guarded)
 unfolding guarded nodes program-of closures
 guarded-good = one-good guarded (omega arith) (omega arith) (omega arith) (tt, tt)
 
-guarded-step : step guarded ≡ some (record { rule = by-guard; thread = 0; result = con 2 ∷ [] })
+guarded-step : step guarded ≡ some (record { rule = Guard; thread = 0; result = con 2 ∷ [] })
 unfolding guarded substitute single structure value plug own redexes rewriting first step-thread step
 guarded-step = refl
 
 -- A value of k + 4 nodes put in for the indices of a term.
 module _ (t : Tree term) (k : ℕ) where
-  put-step : step (put-into t k) ≡ some (record { rule = by-beta; thread = 0; result = put-in t 0 (closure k) ∷ [] })
+  put-step : step (put-into t k) ≡ some (record { rule = Beta; thread = 0; result = put-in t 0 (closure k) ∷ [] })
   unfolding substitute threads put-in single structure value plug own redexes rewriting first step-thread step
   put-step = refl
 
@@ -478,23 +480,39 @@ twice-and-one-good : (k : ℕ) → k + 15 ≤ 2048 → Good limit (program-of (t
 unfolding nodes closures
 twice-and-one-good k l = put-good pair-and-one k (omega arith) (omega arith) (omega arith) refl
 
+-- `(c1 (u c1 c2) (n b0) (l ()))`, and after its step
+four : List (Tree term)
+four = con 1 ∷ two unif (con 1) (con 2) ∷ fresh (bound 0) ∷ abs code empty ∷ []
+
+three : List (Tree term)
+three = con 1 ∷ fresh (bound 0) ∷ abs code empty ∷ []
+
+four-good : Good limit (program-of four)
+unfolding four nodes program-of closures
+four-good = one-good four (omega arith) (omega arith) (omega arith) (tt, (tt, (tt, (tt, tt))))
+
+four-step : step four ≡ some (record { rule = Fail; thread = 1; result = three })
+unfolding four three substitute single structure value shape carry meet solve unify plug own redexes rewriting first step-thread step bind
+four-step = refl
+
 -- the refusal and the count that an answer tells
 refusal-of : {v w : Values} → v ≡ w → v .refusal ≡ w .refusal
 refusal-of e = ap (λ (x : Values). x .refusal) e
 
-accepts : ℕ → Values
-accepts k = record { refusal = 0; values = k ∷ [] }
+by-beta : ℕ → Values
+by-beta k = record { refusal = 0; values = k ∷ 2 ∷ 0 ∷ [] }
 
 pub call-boundaries : CallBoundaries
-unfolding ascii preorder nodes threads program-of digits decimal bytes encode raw raw-text text guarded step accepts nodes-before
+unfolding ascii preorder nodes threads program-of digits decimal bytes encode raw raw-text text guarded four three step by-beta nodes-before
 call-boundaries = record {
   write-in = λ rest out v o l h. writes-iff h .1 (record { program = program-of (con 1 ∷ []); table-of = front-table rest one-con; good = one-con; held = omega arith });
   write-out = λ rest out v o l h. write-gives-9 (front-table rest one-con) one-con h (omega arith);
   step-in = λ rest out v o l h. refusal-of (good-steps (front-table rest guarded-good) guarded-good guarded-step (omega arith) (omega arith) h .0);
   step-out = λ rest out v o l h. step-gives-9 (front-table rest guarded-good) guarded-good guarded-step h (omega arith) (omega arith);
-  result-in = λ out v o t l h. good-steps t (twice-good 1018 (omega arith)) (put-step pair 1018) (omega (arith, twice-result 1018)) (omega (arith, twice-result 1018)) h .0 ∙ ap accepts (twice-result 1018);
+  result-in = λ out v o t l h. good-steps t (twice-good 1018 (omega arith)) (put-step pair 1018) (omega (arith, twice-result 1018)) (omega (arith, twice-result 1018)) h .0 ∙ ap by-beta (twice-result 1018);
   result-out = λ out v o t h. step-gives-7 t (twice-and-one-good 1018 (omega arith)) (put-step pair-and-one 1018) h (omega (arith, twice-and-one-result 1018));
   no-threads = λ rest out v o h. refusal-of (good-stopped (front-table rest (one-good [] (omega arith) tt tt tt)) (one-good [] (omega arith) tt tt tt) refl h .0);
+  thread-told = λ rest out v o l h. good-steps (front-table rest four-good) four-good four-step (omega arith) (omega arith) h .0;
   run-in = λ rest work k v t w l h. refusal-of (good-runs (front-table rest one-con) one-con (omega arith) h .0);
   run-out = λ rest work k v t w l h. run-gives-9 (front-table rest one-con) one-con h (omega arith);
   thread-in = λ {k = k} t g l h. stands-exactly h .accepted (stands-accepted k t g l);
@@ -505,55 +523,60 @@ call-boundaries = record {
 
 -- The run.
 
-guarded-run : (room k : ℕ) → 3 ≤ room → run room (suc k) guarded ≡ record { reason = Ended; taken = 1; last = con 2 ∷ [] }
-unfolding guarded nodes program-of substitute single structure value plug own redexes rewriting first step-thread step next-program run
-guarded-run room k l = run-goes next-program size {s = guarded} room k refl (omega arith) ∙ ap (later next-program size) (run-ended next-program size {s = con 2 ∷ []} room k refl)
+-- one step counted, by guard and by beta
+abbrev guard-counted : Counts
+guard-counted = record { alloc = 0; beta = 0; fresh = 0; guard = 1; unif = 0; fail = 0 }
 
-guarded-stays : (room : ℕ) → run room 0 guarded ≡ record { reason = Steps; taken = 0; last = guarded }
-unfolding guarded substitute single structure value plug own redexes rewriting first step-thread step next-program run
-guarded-stays room = run-full next-program size {s = guarded} room refl
+abbrev beta-counted : Counts
+beta-counted = record { alloc = 0; beta = 1; fresh = 0; guard = 0; unif = 0; fail = 0 }
 
-con-ends : (room : ℕ) → run room 0 (con 1 ∷ []) ≡ record { reason = Ended; taken = 0; last = con 1 ∷ [] }
-unfolding own redexes first step-thread step next-program run
-con-ends room = run-ended next-program size {s = con 1 ∷ []} room 0 refl
+guarded-run : (room k : ℕ) → 3 ≤ room → counted-run room (suc k) (uncounted guarded) ≡ stopped Ended 1 (con 2 ∷ []) guard-counted
+unfolding guarded nodes program-of substitute own redexes first step-thread step
+guarded-run room k l = goes-on room k (uncounted guarded) guarded-step (omega arith) (counted-ended (record { state = con 2 ∷ []; counts = guard-counted }) room k refl)
 
-put-next : (t : Tree term) (k : ℕ) → next-program (put-into t k) ≡ some (result-of t k)
-put-next t k = next-of (put-into t k) (put-step t k)
+guarded-stays : (room : ℕ) → counted-run room 0 (uncounted guarded) ≡ stopped Steps 0 guarded no-counts
+guarded-stays room = counted-full (uncounted guarded) guarded-step room
+
+con-ends : (room : ℕ) → counted-run room 0 (uncounted (con 1 ∷ [])) ≡ stopped Ended 0 (con 1 ∷ []) no-counts
+unfolding own redexes first step-thread step
+con-ends room = counted-ended (uncounted (con 1 ∷ [])) room 0 refl
 
 -- no step is asked for
-put-stays : (t : Tree term) (k room : ℕ) → run room 0 (put-into t k) ≡ record { reason = Steps; taken = 0; last = put-into t k }
-unfolding run
-put-stays t k room = run-full next-program size {s = put-into t k} room (put-next t k)
+put-stays : (t : Tree term) (k room : ℕ) → counted-run room 0 (uncounted (put-into t k)) ≡ stopped Steps 0 (put-into t k) no-counts
+put-stays t k room = counted-full (uncounted (put-into t k)) (put-step t k) room
 
 -- the result does not fit the room
-put-stops : (t : Tree term) (k room : ℕ) → room < size (result-of t k) → run room 1 (put-into t k) ≡ record { reason = Room; taken = 0; last = put-into t k }
-unfolding run
-put-stops t k room l = run-large next-program size {s = put-into t k} room 0 (put-next t k) l
+put-stops : (t : Tree term) (k room : ℕ) → room < size (result-of t k) → counted-run room 1 (uncounted (put-into t k)) ≡ stopped Room 0 (put-into t k) no-counts
+put-stops t k room l = counted-large (uncounted (put-into t k)) (put-step t k) room 0 l
+
+-- what is left of it has a step
+pair-step : (k : ℕ) → (s : Step) × (step (result-of pair k) ≡ some s)
+unfolding substitute put-in single structure value plug own redexes rewriting first step-thread step
+pair-step k = (_, refl)
 
 -- it fits, and the one step is used
-twice-goes : (k room : ℕ) → 2 * k + 12 ≤ room → run room 1 (twice k) ≡ record { reason = Steps; taken = 1; last = result-of pair k }
-unfolding substitute put-in single structure value plug own redexes rewriting first step-thread step next-program run
-twice-goes k room l = run-goes next-program size {s = twice k} room 0 (put-next pair k) (omega (arith, twice-result k)) ∙ ap (later next-program size) (run-full next-program size {s = result-of pair k} room refl)
+twice-goes : (k room : ℕ) → 2 * k + 12 ≤ room → counted-run room 1 (uncounted (twice k)) ≡ stopped Steps 1 (result-of pair k) beta-counted
+twice-goes k room l = goes-on room 0 (uncounted (twice k)) (put-step pair k) (omega (arith, twice-result k)) (counted-full (record { state = result-of pair k; counts = beta-counted }) (pair-step k .1) room)
 
 -- what a run tells of these
-stopped : ℕ → ℕ → ℕ → Values
-stopped r m k = record { refusal = 0; values = r ∷ m ∷ k ∷ [] }
+told : ℕ → ℕ → ℕ → List ℕ → Values
+told r m k c = record { refusal = 0; values = r ∷ m ∷ k ∷ c }
 
 module _ {table : List ℕ} {count : ℕ} {work : List ℕ} {v : Values} {x w : List ℕ} (r : RunsWith limit table count work 1 v x w) where
   -- one step in a room for its result
-  goes-once : (k : ℕ) → TableOf limit table count (program-of (twice k)) → count ≤ holds-nodes work → 2 * k + 12 ≤ room-of limit table work → v ≡ stopped 2 (2 * k + 12) 1
-  unfolding stopped
+  goes-once : (k : ℕ) → TableOf limit table count (program-of (twice k)) → count ≤ holds-nodes work → 2 * k + 12 ≤ room-of limit table work → v ≡ told 2 (2 * k + 12) 1 one-beta
+  unfolding told
   goes-once k h l m =
       let g = twice-good k (omega (arith, h .counts, h .small, twice-nodes k)) in
-      runs-to (twice k) h g l (twice-goes k (room-of limit table work) m) r .0 ∙ ap (λ (y : ℕ). stopped 2 y 1) (twice-result k)
+      runs-to (twice k) h g l (twice-goes k (room-of limit table work) m) r .0 ∙ ap (λ (y : ℕ). told 2 y 1 one-beta) (twice-result k)
 
   -- none in a smaller one
-  stops-at-once : (t : Tree term) (k : ℕ) → TableOf limit table count (program-of (put-into t k)) → Good limit (program-of (put-into t k)) → count ≤ holds-nodes work → room-of limit table work < size (result-of t k) → v ≡ stopped 3 count 0
-  unfolding stopped
-  stops-at-once t k h g l m = runs-to (put-into t k) h g l (put-stops t k (room-of limit table work) m) r .0 ∙ ap (λ (y : ℕ). stopped 3 y 0) (h .counts)
+  stops-at-once : (t : Tree term) (k : ℕ) → TableOf limit table count (program-of (put-into t k)) → Good limit (program-of (put-into t k)) → count ≤ holds-nodes work → room-of limit table work < size (result-of t k) → v ≡ told 3 count 0 no-step
+  unfolding told
+  stops-at-once t k h g l m = runs-to (put-into t k) h g l (put-stops t k (room-of limit table work) m) r .0 ∙ ap (λ (y : ℕ). told 3 y 0 no-step) (h .counts)
 
 pub run-boundaries : RunBoundaries
-unfolding preorder nodes program-of guarded stopped
+unfolding preorder nodes program-of guarded told
 run-boundaries = record {
   zeros = λ a b c d e f g h i j k v t w r.
       let z = runs-to guarded (front-table (a ∷ []) guarded-good) guarded-good (omega arith) (guarded-run 5 0 (omega arith)) r in
@@ -561,10 +584,10 @@ run-boundaries = record {
   no-steps = λ rest work v t w l r. runs-to guarded (front-table rest guarded-good) guarded-good (omega arith) (guarded-stays (room-of limit (preorder (program-of guarded) ++ rest) work)) r .0;
   end-first = λ rest work v t w l r. runs-to (con 1 ∷ []) (front-table rest one-con) one-con (omega arith) (con-ends (room-of limit (preorder (program-of (con 1 ∷ [])) ++ rest) work)) r .0;
   limit-first = λ {table} work v t w h l m r.
-      runs-to (twice 4) h (twice-good 4 (omega arith)) (omega (arith, h .counts, twice-nodes 4)) (put-stays pair 4 (room-of limit table work)) r .0 ∙ ap (λ (y : ℕ). stopped 2 y 0) (twice-nodes 4);
+      runs-to (twice 4) h (twice-good 4 (omega arith)) (omega (arith, h .counts, twice-nodes 4)) (put-stays pair 4 (room-of limit table work)) r .0 ∙ ap (λ (y : ℕ). told 2 y 0 no-step) (twice-nodes 4);
   room-in = λ work v t w h l m r. goes-once r 4 h (omega (arith, h .counts, twice-nodes 4)) (omega arith);
-  table-short = λ work v t w h l m r. stops-at-once r pair 4 h (twice-good 4 (omega arith)) (omega (arith, h .counts, twice-nodes 4)) (omega (arith, twice-result 4)) ∙ ap (λ (y : ℕ). stopped 3 y 0) (sym (h .counts) ∙ twice-nodes 4);
-  work-short = λ work v t w h l m r. stops-at-once r pair 4 h (twice-good 4 (omega arith)) (omega (arith, h .counts, twice-nodes 4)) (omega (arith, twice-result 4)) ∙ ap (λ (y : ℕ). stopped 3 y 0) (sym (h .counts) ∙ twice-nodes 4);
+  table-short = λ work v t w h l m r. stops-at-once r pair 4 h (twice-good 4 (omega arith)) (omega (arith, h .counts, twice-nodes 4)) (omega (arith, twice-result 4)) ∙ ap (λ (y : ℕ). told 3 y 0 no-step) (sym (h .counts) ∙ twice-nodes 4);
+  work-short = λ work v t w h l m r. stops-at-once r pair 4 h (twice-good 4 (omega arith)) (omega (arith, h .counts, twice-nodes 4)) (omega (arith, twice-result 4)) ∙ ap (λ (y : ℕ). told 3 y 0 no-step) (sym (h .counts) ∙ twice-nodes 4);
   limit-in = λ work v t w h l m r. goes-once r 1018 h (omega (arith, h .counts, twice-nodes 1018)) (omega arith);
-  limit-out = λ work v t w h l m r. stops-at-once r pair-and-one 1018 h (twice-and-one-good 1018 (omega arith)) (omega (arith, h .counts, twice-and-one-nodes 1018)) (omega (arith, twice-and-one-result 1018)) ∙ ap (λ (y : ℕ). stopped 3 y 0) (sym (h .counts) ∙ twice-and-one-nodes 1018);
+  limit-out = λ work v t w h l m r. stops-at-once r pair-and-one 1018 h (twice-and-one-good 1018 (omega arith)) (omega (arith, h .counts, twice-and-one-nodes 1018)) (omega (arith, twice-and-one-result 1018)) ∙ ap (λ (y : ℕ). told 3 y 0 no-step) (sym (h .counts) ∙ twice-and-one-nodes 1018);
 }

@@ -3,32 +3,40 @@
 use mathlib.Core.Path.{_≡_, sym, ap, _∙_}
 use mathlib.Core.List.{List}
 use Prim.Native.Nat.{ℕ, _+_, _*_}
-use lib.ListN.{length}
+use lib.ListN.{length, drop}
 use Rattle.calculus.specs.declared.Counted.{Counted}
 use Rattle.calculus.specs.declared.Stepped.{Stepped}
 use Rattle.calculus.specs.declared.Ran.{Ran}
 use Rattle.calculus.specs.declared.Stood.{Stood}
 use Rattle.calculus.specs.Answers.{Values, countedValues, steppedValues, ranValues, stoodValues}
 use Rattle.calculus.specs.Calls.{Reads, Writes, StepsInto, RunsWith, StandsAt}
-use Rattle.calculus.proofs.Answers.{same-refusal, same-value, counted-once, stepped-once, ran-once, stood-once}
+use Rattle.calculus.proofs.Answers.{same-refusal, same-value, six-injective, counted-once, stepped-once, ran-once, stood-once}
 use Rattle.calculus.proofs.Outcomes.{reads-once, writes-once, steps-once, runs-once, stands-once, parts-once}
 use Rattle.table.specs.Threads.{SpanOf, ThreadPart}
 use Rattle.mespindro.specs.declared.exports.Count.{Count}
+use Rattle.mespindro.specs.declared.exports.Move.{Move}
 use Rattle.mespindro.specs.declared.exports.Stop.{Stop}
 use Rattle.mespindro.specs.declared.exports.Stand.{Stand}
-use Rattle.mespindro.specs.Exports.{countValues, stopValues, standValues}
+use Rattle.mespindro.specs.Exports.{countValues, moveValues, stopValues, standValues}
 use Rattle.promises.proofs.Refused.{span-length}
 
 -- No two structs of the exported functions have the same values: every field is told.
 
--- of reading, writing and a step
+-- of reading and writing
 pub count-once : (x y : Count) → countValues x ≡ countValues y → x ≡ y
 count-once x y e = let same : _≡_ {A = Count} (record { count = x .count; refusal = x .refusal }) y = rw (same-value 0 e, same-refusal e) in same
+
+-- of a step
+pub move-once : (x y : Move) → moveValues x ≡ moveValues y → x ≡ y
+move-once x y e =
+    let same : _≡_ {A = Move} (record { nodes = x .nodes; thread = x .thread; rule = x .rule; refusal = x .refusal }) y = rw (same-value 0 e, same-value 1 e, same-value 2 e, same-refusal e) in
+    same
 
 -- of a run
 pub stop-once : (x y : Stop) → stopValues x ≡ stopValues y → x ≡ y
 stop-once x y e =
-    let same : _≡_ {A = Stop} (record { nodes = x .nodes; steps = x .steps; reason = x .reason; refusal = x .refusal }) y = rw (same-value 0 e, same-value 1 e, same-value 2 e, same-refusal e) in
+    let same : _≡_ {A = Stop} (record { nodes = x .nodes; steps = x .steps; counts = x .counts; reason = x .reason; refusal = x .refusal }) y =
+    rw (same-value 0 e, same-value 1 e, same-value 2 e, six-injective (x .counts) (y .counts) (ap (λ (v : Values). drop 3 (v .values)) e), same-refusal e) in
     same
 
 -- of the standing call
@@ -63,8 +71,8 @@ module _ {n : ℕ} {table : List ℕ} {count : ℕ} where
     step-determined x y h k = told stepped-once x y (steps-once h k)
 
     -- as exported
-    pub exported-step-determined : (x y : Count) → StepsInto n table count out (countValues x) o → StepsInto n table count out (countValues y) u → (x ≡ y) × (o ≡ u)
-    exported-step-determined x y h k = told count-once x y (steps-once h k)
+    pub exported-step-determined : (x y : Move) → StepsInto n table count out (moveValues x) o → StepsInto n table count out (moveValues y) u → (x ≡ y) × (o ≡ u)
+    exported-step-determined x y h k = told move-once x y (steps-once h k)
 
   module _ {work : List ℕ} {limit : ℕ} {t w p q : List ℕ} where
     -- a run: the answer, the table and the work table

@@ -5,15 +5,18 @@ use mathlib.Core.List.{List, [], _∷_, _++_}
 use mathlib.Core.Option.{some, bind}
 use Prim.Native.Nat.{ℕ, suc, _-_, _≤_}
 use native.Mathlib.Omega.{arith}
-use lib.ListN.{getD, take}
+use lib.ListN.{take}
+use Rattle.calculus.specs.declared.Reason.{Reason}
 use Rattle.calculus.specs.declared.Reason.the-variants.{Ended}
+use Rattle.calculus.specs.declared.Counts.{Counts}
 use Rattle.calculus.specs.Tree.{Sort, term, program, guard, unif, Head, code, at, Tree, empty, alt, bound, free, con, abs, fresh, two, preorder, nodes, threads, program-of, uses}
-use Rattle.calculus.specs.Put.{substitute}
+use Rattle.calculus.specs.Put.{put-in, substitute}
 use Rattle.calculus.specs.Value.{single, structure, value}
 use Rattle.calculus.specs.Unify.{one, all, shape, takes, carry, meet, solve, unify}
 use Rattle.calculus.specs.Redex.{plug, own, redexes}
-use Rattle.calculus.specs.Step.{rewriting, first, step-thread, step}
-use Rattle.calculus.specs.Run.{End, size, later, next-program, run, holds-nodes, room-of}
+use Rattle.calculus.specs.Step.{least-from, variable-for, rewriting, first, step-thread, Step, step}
+use Rattle.calculus.specs.Run.{End, size, run, holds-nodes, room-of}
+use Rattle.calculus.specs.Tally.{no-counts, one-more, Tally, uncounted, counted-run, run-counts}
 use Rattle.calculus.specs.Text.{text}
 use Rattle.calculus.specs.Good.{InRange, Closed, Holds, Coherent, All, Good}
 use Rattle.calculus.specs.Answers.{Values}
@@ -21,8 +24,10 @@ use Rattle.calculus.specs.Calls.{front, TextOf, Reads, TableOf, end-table, ran-
 use Rattle.calculus.proofs.Alls.{all-each}
 use Rattle.calculus.proofs.Preorders.{threads-of-program}
 use Rattle.calculus.proofs.Texts.{text-injective}
-use Rattle.calculus.proofs.Machines.{run-ended, run-goes}
+use Rattle.calculus.proofs.Machines.{seen}
+use Rattle.calculus.proofs.Tallies.{counted-ended, counted-goes, counted-forgets}
 use Rattle.calculus.proofs.Exclusions.{step-accepts, reader-accepts}
+use Rattle.promises.specs.Rules.{steps-told}
 use Rattle.promises.proofs.Refused.{reads-exactly}
 use Rattle.promises.proofs.Worked.{good-steps, good-runs}
 
@@ -120,12 +125,20 @@ one-good ts l r c o = record { small = l; ranges = r; closed = c; coherent = rw 
 held-good : {n : ℕ} {table : List ℕ} {count : ℕ} (ts : List (Tree term)) → TableOf n table count (program-of ts) → Closed 0 (program-of ts) → All (λ t. OneAtMost (closures t)) ts → Good n (program-of ts)
 held-good ts h c o = one-good ts (omega (arith, h .counts, h .small)) (h .ranges) c o
 
--- with the run of the threads in hand
-pub runs-to : {n : ℕ} {table : List ℕ} {count : ℕ} {work : List ℕ} {limit : ℕ} {v : Values} {t w : List ℕ} {e : End (List (Tree term))} (ts : List (Tree term)) → TableOf n table count (program-of ts) → Good n (program-of ts) → count ≤ holds-nodes work →
-    run (room-of n table work) limit ts ≡ e → RunsWith n table count work limit v t w → (v ≡ ran-values e) × (t ≡ end-table table (e .last))
-runs-to {n} {table} {work = work} {limit} {e = e} ts h g l i r =
-    let j : run (room-of n table work) limit (threads (program-of ts)) ≡ e = ap (run (room-of n table work) limit) (threads-of-program ts) ∙ i in
-    rw j at (good-runs h g l r)
+-- a counted run that stopped, with its counts
+abbrev pub stopped : Reason → ℕ → List (Tree term) → Counts → End (Tally (List (Tree term)))
+stopped r k ts c = record { reason = r; taken = k; last = record { state = ts; counts = c } }
+
+-- with the counted run of the threads in hand
+pub runs-to : {n : ℕ} {table : List ℕ} {count : ℕ} {work : List ℕ} {limit : ℕ} {v : Values} {t w : List ℕ} {r : Reason} {k : ℕ} {q : List (Tree term)} {c : Counts} (ts : List (Tree term)) →
+    TableOf n table count (program-of ts) → Good n (program-of ts) → count ≤ holds-nodes work → counted-run (room-of n table work) limit (uncounted ts) ≡ stopped r k q c → RunsWith n table count work limit v t w →
+    (v ≡ ran-values (record { reason = r; taken = k; last = q }) c) × (t ≡ end-table table q)
+unfolding run-counts
+runs-to {n} {table} {work = work} {limit} {r = r} {k} {q} {c} ts h g l i z =
+    let room = room-of n table work in
+    let j : run room limit ts ≡ record { reason = r; taken = k; last = q } = counted-forgets room limit (uncounted ts) ∙ ap (seen (λ (u : Tally (List (Tree term))). u .state)) i in
+    let d : run-counts room limit ts ≡ c = ap (λ (e : End (Tally (List (Tree term)))). e .last .counts) i in
+    rw (threads-of-program ts, j, d) at (good-runs h g l z)
 
 -- A reader may not always refuse: the text `()` is read under every limit, whatever the output holds.
 pub reader-must-read : {n : ℕ} {out : List ℕ} {v : Values} {o : List ℕ} → Reads n (text empty) out v o → 1 ≤ n → 1 ≤ holds-nodes out → v .refusal ≡ 0
@@ -144,9 +157,9 @@ step-must-step h r i =
     (ap (λ (v : Values). v .refusal) (z .0), z .1)
 
 -- the run of one constructor ends in it at once
-constructor-end : (room limit c : ℕ) → run room limit (con c ∷ []) ≡ record { reason = Ended; taken = 0; last = con c ∷ [] }
-unfolding substitute own redexes first step-thread step next-program run
-constructor-end room limit c = run-ended next-program size {s = con c ∷ []} room limit refl
+constructor-end : (room limit c : ℕ) → counted-run room limit (uncounted (con c ∷ [])) ≡ stopped Ended 0 (con c ∷ []) no-counts
+unfolding substitute own redexes first step-thread step
+constructor-end room limit c = counted-ended (uncounted (con c ∷ [])) room limit refl
 
 leaves-constructor : {n : ℕ} {table : List ℕ} {count c : ℕ} {work : List ℕ} {k : ℕ} {v : Values} {t w : List ℕ} → TableOf n table count (program-of (con c ∷ [])) → count ≤ holds-nodes work → RunsWith n table count work k v t w → take 4 t ≡ 1 ∷ 0 ∷ 4 ∷ c ∷ []
 unfolding closures preorder program-of
@@ -170,17 +183,20 @@ step-must-not-copy h r i e =
     let z = good-steps h (held-good ts h (omega arith) (tt, tt)) (ap step (threads-of-program ts)) (omega (arith, h .counts, h .small)) (omega arith) i .1 in
     let y : _≡_ {A = ℕ} 4 9 = cc in omega arith
 
--- one step of a run, its result within the room
-goes-on : (room limit : ℕ) (ts q : List (Tree term)) {e : End (List (Tree term))} → next-program ts ≡ some q → size q ≤ room → run room limit q ≡ e → run room (suc limit) ts ≡ later next-program size e
-unfolding run
-goes-on room limit ts q h l r = run-goes next-program size {s = ts} room limit h l ∙ ap (later next-program size) r
+-- one step of a counted run, its result within the room
+pub goes-on : {r : Reason} {j : ℕ} {e : List (Tree term)} {c : Counts} (room limit : ℕ) (t : Tally (List (Tree term))) {s : Step} → step (t .state) ≡ some s → size (s .result) ≤ room →
+    counted-run room limit (record { state = s .result; counts = one-more (t .counts) (s .rule) }) ≡ stopped r j e c → counted-run room (suc limit) t ≡ stopped r (suc j) e c
+goes-on room limit t h l i = counted-goes t h room limit l ∙ ap (λ (x : End (Tally (List (Tree term)))). record { reason = x .reason; taken = suc (x .taken); last = x .last }) i
 
 -- `((g (u x0 c1) x0) (g (u x0 c2) x0))`
 abbrev two-threads : List (Tree term)
 two-threads = two guard (two unif (free 0) (con 1)) (free 0) ∷ two guard (two unif (free 0) (con 2)) (free 0) ∷ []
 
-two-threads-run : (room limit : ℕ) → 13 ≤ room → 4 ≤ limit → run room limit two-threads ≡ record { reason = Ended; taken = 4; last = con 1 ∷ con 2 ∷ [] }
-unfolding nodes program-of uses substitute single structure value one all shape takes carry meet solve unify plug own redexes rewriting first step-thread step next-program run bind
+abbrev two-goals : Counts
+two-goals = record { alloc = 0; beta = 0; fresh = 0; guard = 2; unif = 2; fail = 0 }
+
+two-threads-run : (room limit : ℕ) → 13 ≤ room → 4 ≤ limit → counted-run room limit (uncounted two-threads) ≡ stopped Ended 4 (con 1 ∷ con 2 ∷ []) two-goals
+unfolding nodes program-of uses substitute single structure value one all shape takes carry meet solve unify plug own redexes rewriting first step-thread step bind
 two-threads-run room limit l k =
     let j = limit - 4 in
     let e : limit ≡ suc (suc (suc (suc j))) = omega arith in
@@ -189,31 +205,52 @@ two-threads-run room limit l k =
     let b = con 1 ∷ other in
     let c = con 1 ∷ two guard (con 0) (con 2) ∷ [] in
     let d = con 1 ∷ con 2 ∷ [] in
-    rw e (goes-on room (suc (suc (suc j))) two-threads a refl (omega arith) (goes-on room (suc (suc j)) a b refl (omega arith) (goes-on room (suc j) b c refl (omega arith) (goes-on room j c d refl (omega arith) (run-ended next-program size {s = d} room j refl)))))
+    let at : List (Tree term) → ℕ → ℕ → Tally (List (Tree term)) = λ ts g u. record { state = ts; counts = record { alloc = 0; beta = 0; fresh = 0; guard = g; unif = u; fail = 0 } } in
+    rw e
+    (goes-on room (suc (suc (suc j))) (uncounted two-threads) refl (omega arith)
+    (goes-on room (suc (suc j)) (at a 0 1) refl (omega arith) (goes-on room (suc j) (at b 1 1) refl (omega arith) (goes-on room j (at c 1 2) refl (omega arith) (counted-ended (at d 2 2) room j refl)))))
 
 -- A run may not work its first thread alone: with `x0` in both, each thread of `((g (u x0 c1) x0) (g (u x0 c2) x0))` is worked with bindings of its own, 4 steps in all.
 pub run-must-work-every-thread : {n : ℕ} {table : List ℕ} {count : ℕ} {work : List ℕ} {limit : ℕ} {v : Values} {t w : List ℕ} →
     TableOf n table count (program-of two-threads) → count ≤ holds-nodes work → 4 ≤ limit → RunsWith n table count work limit v t w →
-    (v ≡ ran-values (record { reason = Ended; taken = 4; last = con 1 ∷ con 2 ∷ [] })) × (t ≡ end-table table (con 1 ∷ con 2 ∷ []))
+    (v ≡ ran-values (record { reason = Ended; taken = 4; last = con 1 ∷ con 2 ∷ [] }) two-goals) × (t ≡ end-table table (con 1 ∷ con 2 ∷ []))
 unfolding nodes program-of closures
 run-must-work-every-thread {n} {table} {count} {work} {limit} h l k r = runs-to two-threads h (held-good two-threads h (omega arith) (tt, (tt, tt))) l (two-threads-run (room-of n table work) limit (omega (arith, h .counts, h .small, h .within)) k) r
-
--- the step count that an accepted run tells, the third of its values
-abbrev pub steps-told : Values → ℕ
-steps-told v = getD (v .values) 2 0
 
 -- The step count may not be made up: `()` takes none, `((g c1 c2))` takes one.
 pub count-must-be-right : {n : ℕ} {table table′ : List ℕ} {count count′ : ℕ} {work work′ : List ℕ} {k k′ : ℕ} {v v′ : Values} {t t′ w w′ : List ℕ} →
     TableOf n table count empty → TableOf n table′ count′ (program-of (two guard (con 1) (con 2) ∷ [])) → count ≤ holds-nodes work → count′ ≤ holds-nodes work′ → 1 ≤ k′ →
     RunsWith n table count work k v t w → RunsWith n table′ count′ work′ k′ v′ t′ w′ → (steps-told v ≡ 0) × (steps-told v′ ≡ 1)
-unfolding nodes program-of closures substitute single structure value plug own redexes rewriting first step-thread step next-program run
+unfolding nodes program-of closures substitute single structure value plug own redexes rewriting first step-thread step
 count-must-be-right {n} {table} {table′} {work = work} {work′} {k} {k′} h h′ l l′ m r r′ =
     let ts = two guard (con 1) (con 2) ∷ [] in
     let d = con 2 ∷ [] in
     let j = k′ - 1 in
     let e : k′ ≡ suc j = omega arith in
     let room = room-of n table′ work′ in
-    let i : run room k′ ts ≡ record { reason = Ended; taken = 1; last = d } = rw e (goes-on room j ts d refl (omega (arith, h′ .counts, h′ .small, h′ .within)) (run-ended next-program size {s = d} room j refl)) in (
-      ap steps-told (runs-to [] h (held-good [] h tt tt) l (run-ended next-program size {s = []} (room-of n table work) k refl) r .0),
+    let c : Counts = record { alloc = 0; beta = 0; fresh = 0; guard = 1; unif = 0; fail = 0 } in
+    let i : counted-run room k′ (uncounted ts) ≡ stopped Ended 1 d c = rw e (goes-on room j (uncounted ts) refl (omega (arith, h′ .counts, h′ .small, h′ .within)) (counted-ended (record { state = d; counts = c }) room j refl)) in (
+      ap steps-told (runs-to [] h (held-good [] h tt tt) l (counted-ended (uncounted []) (room-of n table work) k refl) r .0),
       ap steps-told (runs-to ts h′ (held-good ts h′ (omega arith) (tt, tt)) l′ i r′ .0),
     )
+
+-- `((n (g (u b0 c1) b0)))`
+abbrev one-goal : List (Tree term)
+one-goal = fresh (two guard (two unif (bound 0) (con 1)) (bound 0)) ∷ []
+
+one-goal-run : (room limit : ℕ) → 7 ≤ room → 3 ≤ limit → counted-run room limit (uncounted one-goal) ≡ stopped Ended 3 (con 1 ∷ []) (record { alloc = 0; beta = 0; fresh = 1; guard = 1; unif = 1; fail = 0 })
+unfolding nodes program-of uses put-in substitute single structure value one all shape takes carry meet solve unify plug own redexes least-from variable-for rewriting first step-thread step bind
+one-goal-run room limit l k =
+    let j = limit - 3 in
+    let e : limit ≡ suc (suc (suc j)) = omega arith in
+    let at : List (Tree term) → ℕ → ℕ → Tally (List (Tree term)) = λ ts g u. record { state = ts; counts = record { alloc = 0; beta = 0; fresh = 1; guard = g; unif = u; fail = 0 } } in
+    rw e
+    (goes-on room (suc (suc j)) (uncounted one-goal) refl (omega arith)
+    (goes-on room (suc j) (at (two guard (two unif (free 0) (con 1)) (free 0) ∷ []) 0 0) refl (omega arith) (goes-on room j (at (two guard (con 0) (con 1) ∷ []) 0 1) refl (omega arith) (counted-ended (at (con 1 ∷ []) 1 1) room j refl))))
+
+-- The six counts may not be made up: a run of `((n (g (u b0 c1) b0)))` takes a step each by fresh, guard and unif, and no other, in every room that holds it.
+pub counts-must-be-right : {n : ℕ} {table : List ℕ} {count : ℕ} {work : List ℕ} {limit : ℕ} {v : Values} {t w : List ℕ} → TableOf n table count (program-of one-goal) → count ≤ holds-nodes work → 3 ≤ limit → RunsWith n table count work limit v t w →
+    v .values ≡ 1 ∷ 3 ∷ 3 ∷ 0 ∷ 0 ∷ 1 ∷ 1 ∷ 1 ∷ 0 ∷ []
+unfolding nodes program-of closures
+counts-must-be-right {n} {table} {work = work} {limit} h l k r =
+    ap (λ (v : Values). v .values) (runs-to one-goal h (held-good one-goal h (omega arith) (tt, tt)) l (one-goal-run (room-of n table work) limit (omega (arith, h .counts, h .small, h .within)) k) r .0)

@@ -23,7 +23,7 @@ use Rattle.calculus.proofs.Refusals.{accepted-not-refused}
 use Rattle.calculus.proofs.Outcomes.{table-of-unique}
 use Rattle.calculus.proofs.Runs.{program-run-only, finished-head-is, Movable, finished-head-quiet, demand-three}
 use Rattle.promises.specs.Worked.{HasRun}
-use Rattle.promises.specs.Heads.{size-told, DemandThreeTables, DemandThreeEnd, SaysFinished}
+use Rattle.promises.specs.Heads.{size-told, Run, Further, DemandThreeTables, DemandThreeEnd, SaysFinished}
 use Rattle.promises.proofs.Admitted.{good-table}
 use Rattle.promises.proofs.Worked.{run-gives}
 
@@ -62,12 +62,12 @@ head-there {table = table} {count} {p} h =
 
 module _ {n : ℕ} {table : List ℕ} {count : ℕ} {work : List ℕ} {limit : ℕ} {v : Values} {t w : List ℕ} where
   -- an accepted run's end is that of the run of the threads in the table
-  end-is : (h : HasRun n table count work limit v t w) (p : List (Tree term)) → TableOf n table count (program-of p) → h .end .last ≡ run (room-of n table work) limit p .last
+  pub end-is : (h : HasRun n table count work limit v t w) (p : List (Tree term)) → TableOf n table count (program-of p) → h .end .last ≡ run (room-of n table work) limit p .last
   end-is h p f =
       ap (λ (e : End (List (Tree term))). e .last) (program-run-only (h .is-run)) ∙ ap (λ (ts : List (Tree term)). run (room-of n table work) limit ts .last) (ap threads (table-of-unique (h .table-of) f) ∙ threads-of-program p)
 
   -- the table that it left holds that end, with the count that it tells
-  end-there : (h : HasRun n table count work limit v t w) → TableOf n t (size-told v) (program-of (h .end .last))
+  pub end-there : (h : HasRun n table count work limit v t w) → TableOf n t (size-told v) (program-of (h .end .last))
   end-there h = rw (ap size-told (h .values)) (h .back)
 
   -- and nothing else
@@ -93,9 +93,17 @@ module _ {n : ℕ} {table table′ : List ℕ} {count count′ : ℕ} {work work
       let m = 2 * (size (finished-head E) - 1) in
       rw d (ap (take m) b′ ∙ head-front table′ (finished-head E) rest ∙ sym (ap (take m) b ∙ head-front table (finished-head E) more))
 
--- Demand 3 on the numbers alone: where the first table but for its last node begins the second, the finished head that the first run leaves begins what the second leaves
-pub demand-three-tables : DemandThreeTables
-demand-three-tables n a b f e g =
+-- the threads in the first table, those in the second, which has others behind them, and the rooms
+pub record Behind (n : ℕ) (a b : Run n) : Type 0 where
+  pub these : List (Tree term)
+  pub others : List (Tree term)
+  pub first : TableOf n (a .table) (a .count) (program-of these)
+  pub second : TableOf n (b .table) (b .count) (program-of (these ++ others))
+  pub room : room-of n (a .table) (a .work) + (size others - 1) ≤ room-of n (b .table) (b .work)
+
+-- where the first table but for its last node begins the second, these are there
+pub behind-there : (n : ℕ) (a b : Run n) → Further n a b → Behind n a b
+behind-there n a b f =
     let h = run-gives (a .runs) (a .accepted) .table-of in
     let h′ = run-gives (b .runs) (b .accepted) .table-of in
     let p = threads (run-gives (a .runs) (a .accepted) .program) in
@@ -105,7 +113,13 @@ demand-three-tables n a b f e g =
     let (us, j) = begins p q (drop m (preorder q)) (sym (take-append-drop m (preorder q)) ∙ ap (λ (x : List ℕ). x ++ drop m (preorder q)) i) in
     let k : TableOf n (a .table) (a .count) (program-of p) = rw program-of-threads h in
     let k′ : TableOf n (b .table) (b .count) (program-of (p ++ us)) = rw j at h′ in
-    demand-three-calls p us k k′ (a .runs) (a .accepted) (b .runs) (b .accepted) (f .steps) (omega (arith, f .room, k .counts, k′ .counts, size-append p us, nodes-positive (program-of us))) e g
+    record { these = p; others = us; first = k; second = k′; room = omega (arith, f .room, k .counts, k′ .counts, size-append p us, nodes-positive (program-of us)) }
+
+-- Demand 3 on the numbers alone: where the first table but for its last node begins the second, the finished head that the first run leaves begins what the second leaves
+pub demand-three-tables : DemandThreeTables
+demand-three-tables n a b f e g =
+    let h = behind-there n a b f in
+    demand-three-calls (h .these) (h .others) (h .first) (h .second) (a .runs) (a .accepted) (b .runs) (b .accepted) (f .steps) (h .room) e g
 
 -- so of the end that the first run is defined to have
 pub demand-three-end : DemandThreeEnd

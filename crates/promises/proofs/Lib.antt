@@ -5,6 +5,7 @@ pub mod Worked
 pub mod Whole
 pub mod RoundTrip
 pub mod Heads
+pub mod Rules
 pub mod Excluded
 pub mod Starred
 pub mod Boundaries

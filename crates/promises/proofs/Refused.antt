@@ -141,12 +141,12 @@ module _ {n : ℕ} {table : List ℕ} {count : ℕ} where
   write-refused (not-written r g) f = (refl, refl)
 
   -- so does a refused step
-  pub step-refused : {out : List ℕ} {v : Values} {o : List ℕ} → StepsInto n table count out v o → (v .refusal ≡ 0 → ⊥) → (v .values ≡ 0 ∷ []) × (o ≡ out)
+  pub step-refused : {out : List ℕ} {v : Values} {o : List ℕ} → StepsInto n table count out v o → (v .refusal ≡ 0 → ⊥) → (v .values ≡ 0 ∷ 0 ∷ 0 ∷ []) × (o ≡ out)
   step-refused (stepped p s a t) f = absurd (f refl)
   step-refused (not-stepped r g) f = (refl, refl)
 
   -- a refused run returns counts of 0 and changes nothing in either table
-  pub run-refused : {work : List ℕ} {limit : ℕ} {v : Values} {t w : List ℕ} → RunsWith n table count work limit v t w → (v .refusal ≡ 0 → ⊥) → (v .values ≡ 0 ∷ 0 ∷ 0 ∷ []) × ((t ≡ table) × (w ≡ work))
+  pub run-refused : {work : List ℕ} {limit : ℕ} {v : Values} {t w : List ℕ} → RunsWith n table count work limit v t w → (v .refusal ≡ 0 → ⊥) → (v .values ≡ 0 ∷ 0 ∷ 0 ∷ 0 ∷ 0 ∷ 0 ∷ 0 ∷ 0 ∷ 0 ∷ []) × ((t ≡ table) × (w ≡ work))
   run-refused (ran p a t) f = absurd (f refl)
   run-refused (not-run r g) f = (refl, (refl, refl))
 

@@ -11,9 +11,10 @@ use Rattle.calculus.specs.Tree.{term, Tree, preorder, nodes, program-of}
 use Rattle.calculus.specs.Good.{InRange, Closed, All, Good}
 use Rattle.calculus.specs.Step.{step, standing}
 use Rattle.calculus.specs.Run.{End, size, run, room-of}
+use Rattle.calculus.specs.Tally.{run-counts}
 use Rattle.calculus.specs.Text.{text}
-use Rattle.calculus.specs.Answers.{standingCode, Values}
-use Rattle.calculus.specs.Calls.{front, Reads, TableOf, Writes, StepsInto, end-table, ran-values, RunsWith, thread-refusals, StandsAt, stands, not-stood}
+use Rattle.calculus.specs.Answers.{reasonCode, standingCode, Values, six}
+use Rattle.calculus.specs.Calls.{front, Reads, TableOf, Writes, StepsInto, end-table, RunsWith, thread-refusals, StandsAt, stands, not-stood}
 use Rattle.calculus.specs.Known.{Known, Outcome, ascii, found, expected, AllRight, starred}
 use Rattle.calculus.proofs.Preorders.{threads-of-program}
 use Rattle.calculus.proofs.Refusals.{accepted-not-refused}
@@ -22,9 +23,9 @@ use Rattle.calculus.proofs.Ends.{starred-right}
 use Rattle.mespindro.specs.Limit.{limit}
 use Rattle.promises.specs.Calls.{RightCall, Each}
 use Rattle.promises.proofs.Admitted.{good-read-only, good-written-only}
-use Rattle.promises.proofs.Worked.{front-table, good-stopped}
+use Rattle.promises.proofs.Worked.{front-table, good-stopped, good-runs}
 use Rattle.promises.proofs.Heads.{stands-accepted, threads-there}
-use Rattle.promises.proofs.Excluded.{closures, OneAtMost, one-good, runs-to}
+use Rattle.promises.proofs.Excluded.{closures, OneAtMost, one-good}
 
 -- a row's program fits the limit, is in range and closed, and has at most one allocated abstraction in a thread
 abbrev Checked : Known → Type 0
@@ -56,6 +57,10 @@ module _ (k : Known) (e : found k ≡ expected k) (g : Good limit (program-of (k
   unfolding found expected
   is-run = ap (λ (o : Outcome). o .run) e
 
+  is-counts : six (run-counts 2048 10000 (k .program)) ≡ k .counts
+  unfolding found expected
+  is-counts = ap (λ (o : Outcome). o .counts) e
+
   is-end : run 2048 10000 (k .program) .last ≡ k .end
   is-end = ap (λ (r : End (List (Tree term))). r .last) is-run
 
@@ -81,10 +86,10 @@ module _ (k : Known) (e : found k ≡ expected k) (g : Good limit (program-of (k
 
   runs-right : (table work : List ℕ) (v : Values) (t w : List ℕ) → length table ≡ 2 * limit → length work ≡ 2 * limit → TableOf limit table (size (k .program)) (program-of (k .program)) →
       RunsWith limit table (size (k .program)) work 10000 v t w →
-      (v ≡ ran-values (record { reason = Ended; taken = k .steps; last = k .end })) × (t ≡ end-table table (k .end)) × TableOf limit t (size (k .end)) (program-of (k .end))
+      (v ≡ record { refusal = 0; values = reasonCode Ended ∷ size (k .end) ∷ k .steps ∷ k .counts }) × (t ≡ end-table table (k .end)) × TableOf limit t (size (k .end)) (program-of (k .end))
   runs-right table work v t w l m h r =
       let a : room-of limit table work ≡ 2048 = omega arith in
-      let z = runs-to (k .program) h g (omega (arith, g .small)) (ap (λ (room : ℕ). run room 10000 (k .program)) a ∙ is-run) r in
+      let z = rw (a, threads-of-program (k .program), is-run, is-counts) at (good-runs h g (omega (arith, g .small)) r) in
       (z .0, z .1, rw (z .1) (front-table (replicate (length table - length (preorder (program-of (k .end)))) 0) end-good))
 
   single-right : (table out : List ℕ) (v : Values) (o : List ℕ) → TableOf limit table (size (k .end)) (program-of (k .end)) → StepsInto limit table (size (k .end)) out v o → (v .refusal ≡ 11) × (o ≡ out)

@@ -8,6 +8,7 @@ use native.Mathlib.Omega.{arith}
 use lib.ListN.{length, getD, take, drop, replicate, length-append}
 use lib.Seq.{take-at}
 use Rattle.calculus.specs.declared.Refusal.the-variants.{Finished}
+use Rattle.calculus.specs.declared.Rule.{Rule}
 use Rattle.calculus.specs.declared.Standing.{Standing}
 use Rattle.calculus.specs.declared.Standing.the-variants.{Answer, Stuck, Open, Partial}
 use Rattle.calculus.specs.Tree.{term, program, unif, Tree, two, ok, preorder, nodes, threads, program-of}
@@ -16,13 +17,14 @@ use Rattle.calculus.specs.Whole.{Holding}
 use Rattle.calculus.specs.Good.{InRange, Closed, Coherent, All, Good}
 use Rattle.calculus.specs.Redex.{Weak, plug}
 use Rattle.calculus.specs.Unifier.{Substitution, Solves, Unifier}
-use Rattle.calculus.specs.Reduction.{Rule, Rewrites, alloc, beta, fresh-variable, guard-passed, unified, failed}
+use Rattle.calculus.specs.Reduction.{Rewrites, alloc, beta, fresh-variable, guard-passed, unified, failed}
 use Rattle.calculus.specs.Choice.{LeastNames, Chosen}
 use Rattle.calculus.specs.Normal.{Normal}
 use Rattle.calculus.specs.Step.{Step, step, standing}
 use Rattle.calculus.specs.Run.{End, size, run, holds-nodes, room-of}
+use Rattle.calculus.specs.Tally.{run-counts}
 use Rattle.calculus.specs.Text.{text}
-use Rattle.calculus.specs.Answers.{number, standingCode, Values}
+use Rattle.calculus.specs.Answers.{number, ruleCode, standingCode, Values, refused-step}
 use Rattle.calculus.specs.Calls.{Refuses, front, Reads, read, refused, TableOf, Writes, written, not-written, StepsTo, step-refusals, StepsInto, stepped, not-stepped, end-table, ran-values, RunsWith, ran, not-run, Accepts, thread-refusals, ThreadOf, StandsAt, stands, not-stood}
 use Rattle.calculus.proofs.Substitutes.{impossible}
 use Rattle.calculus.proofs.Answers.{number-positive, standing-injective}
@@ -34,6 +36,7 @@ use Rattle.calculus.proofs.Wholes.{whole-substitute, whole-put-in}
 use Rattle.calculus.proofs.Standings.{Says, standing-exactly, partial-exactly, answer-exactly, value-exactly}
 use Rattle.calculus.proofs.Runs.{program-run-is}
 use Rattle.calculus.proofs.Preservation.{good-closed, good-coherent, step-good, run-good, run-choices, run-reductions}
+use Rattle.calculus.proofs.Tallies.{counts-sum, counts-steps}
 use Rattle.calculus.proofs.Outcomes.{table-of-unique, steps-once, runs-once}
 use Rattle.promises.specs.Worked.{Readable, Writable, HasRead, HasWritten, Settled, HasStepped, HasRun, HasStood}
 use Rattle.promises.proofs.Admitted.{closed-stable, coherent-stable, good-table, table-good, accepted, good-read-only, good-written-only}
@@ -161,7 +164,7 @@ module _ {n : ℕ} {table : List ℕ} {count : ℕ} where
 
   -- a good program in a table is stepped into an output with room for the result
   pub good-steps : {out : List ℕ} {v : Values} {o : List ℕ} {p : Tree program} {s : Step} → TableOf n table count p → Good n p → step (threads p) ≡ some s → size (s .result) ≤ n → size (s .result) ≤ holds-nodes out → StepsInto n table count out v o →
-      (v ≡ accepted (size (s .result))) × (o ≡ front (preorder (program-of (s .result))) out)
+      (v ≡ record { refusal = 0; values = size (s .result) ∷ ruleCode (s .rule) ∷ s .thread ∷ [] }) × (o ≡ front (preorder (program-of (s .result))) out)
   good-steps {p = p} {s} t g e l r h =
       let a = good-table t g in
       let same : (q : Tree program) (x : Step) → StepsTo n table count q x → size (x .result) ≡ size (s .result) = λ q x k. let i = table-step t k in cc in
@@ -186,7 +189,7 @@ module _ {n : ℕ} {table : List ℕ} {count : ℕ} where
       )
 
   -- and given 11 where it has no step
-  pub good-stopped : {out : List ℕ} {v : Values} {o : List ℕ} {p : Tree program} → TableOf n table count p → Good n p → step (threads p) ≡ none → StepsInto n table count out v o → (v ≡ record { refusal = 11; values = 0 ∷ [] }) × (o ≡ out)
+  pub good-stopped : {out : List ℕ} {v : Values} {o : List ℕ} {p : Tree program} → TableOf n table count p → Good n p → step (threads p) ≡ none → StepsInto n table count out v o → (v ≡ refused-step Finished) × (o ≡ out)
   good-stopped {p = p} t g e h =
       let a = good-table t g in
       let never : (q : Tree program) (s : Step) → StepsTo n table count q s → ⊥ = λ q s k. impossible (cc (e, table-step t k)) in
@@ -212,6 +215,9 @@ module _ {n : ℕ} {table : List ℕ} {count : ℕ} where
         is-run = program-run-is room limit (threads p);
         rewritings = run-reductions room limit (threads p) threads-good;
         choices = run-choices room limit (threads p) threads-good;
+        counts = run-counts room limit (threads p);
+        counted = counts-steps room limit (threads p) threads-good;
+        summed = counts-sum room limit (threads p);
         values = refl;
         left = refl;
         cleared = refl;
@@ -258,7 +264,7 @@ module _ {n : ℕ} {table : List ℕ} {count : ℕ} where
 
   -- a good program in a table is run with a work table that holds it, whatever the step limit
   pub good-runs : {work : List ℕ} {limit : ℕ} {v : Values} {t w : List ℕ} {p : Tree program} → TableOf n table count p → Good n p → count ≤ holds-nodes work → RunsWith n table count work limit v t w →
-      (v ≡ ran-values (run (room-of n table work) limit (threads p))) × (t ≡ end-table table (run (room-of n table work) limit (threads p) .last))
+      (v ≡ ran-values (run (room-of n table work) limit (threads p)) (run-counts (room-of n table work) limit (threads p))) × (t ≡ end-table table (run (room-of n table work) limit (threads p) .last))
   good-runs {p = p} k g r h =
       let a = good-table k g in
       let e = runs-once h (ran p (a .0, (a .1 .0, (a .1 .1 .0, ((λ l. omega arith), tt)))) k) in

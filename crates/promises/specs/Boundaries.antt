@@ -132,10 +132,13 @@ pub record CallBoundaries : Type 0 where
   pub step-out : (rest out : List ℕ) (v : Values) (o : List ℕ) → length out ≡ 5 → StepsInto limit (1 ∷ 0 ∷ 9 ∷ 0 ∷ 4 ∷ 1 ∷ 4 ∷ 2 ∷ 0 ∷ 0 ∷ rest) 5 out v o → v .refusal ≡ 9
   -- 7 of a step: "a single step's result from coherent threads, has over 2,048 nodes"
   pub result-in : {table : List ℕ} {count : ℕ} (out : List ℕ) (v : Values) (o : List ℕ) → TableOf limit table count (program-of (twice 1018)) → 4096 ≤ length out → StepsInto limit table count out v o →
-      v ≡ record { refusal = 0; values = 2048 ∷ [] }
+      v ≡ record { refusal = 0; values = 2048 ∷ 2 ∷ 0 ∷ [] }
   pub result-out : {table : List ℕ} {count : ℕ} (out : List ℕ) (v : Values) (o : List ℕ) → TableOf limit table count (program-of (twice-and-one 1018)) → StepsInto limit table count out v o → v .refusal ≡ 7
   -- 11: "a single step is asked for and every thread is finished"; the empty program has none
   pub no-threads : (rest out : List ℕ) (v : Values) (o : List ℕ) → StepsInto limit (0 ∷ 0 ∷ rest) 1 out v o → v .refusal ≡ 11
+  -- "which of the six rules it used and in which thread": `(c1 (u c1 c2) (n b0) (l ()))` has one finished thread before the first open one, which the step drops by fail
+  pub thread-told : (rest out : List ℕ) (v : Values) (o : List ℕ) → 18 ≤ length out →
+      StepsInto limit (1 ∷ 0 ∷ 4 ∷ 1 ∷ 1 ∷ 0 ∷ 10 ∷ 0 ∷ 4 ∷ 1 ∷ 4 ∷ 2 ∷ 1 ∷ 0 ∷ 8 ∷ 0 ∷ 2 ∷ 0 ∷ 1 ∷ 0 ∷ 5 ∷ 0 ∷ 0 ∷ 0 ∷ 0 ∷ 0 ∷ rest) 13 out v o → v ≡ record { refusal = 0; values = 9 ∷ 6 ∷ 1 ∷ [] }
   -- 9 of a run: "the program doesn't fit the work table"
   pub run-in : (rest work : List ℕ) (steps : ℕ) (v : Values) (t w : List ℕ) → length work ≡ 6 → RunsWith limit (1 ∷ 0 ∷ 4 ∷ 1 ∷ 0 ∷ 0 ∷ rest) 3 work steps v t w → v .refusal ≡ 0
   pub run-out : (rest work : List ℕ) (steps : ℕ) (v : Values) (t w : List ℕ) → length work ≡ 5 → RunsWith limit (1 ∷ 0 ∷ 4 ∷ 1 ∷ 0 ∷ 0 ∷ rest) 3 work steps v t w → v .refusal ≡ 9
@@ -146,27 +149,37 @@ pub record CallBoundaries : Type 0 where
   pub part-in : (rest : List ℕ) (start : ℕ) (l : List ℕ) → PartAt limit (1 ∷ 0 ∷ 4 ∷ 1 ∷ 1 ∷ 0 ∷ 4 ∷ 2 ∷ 0 ∷ 0 ∷ rest) 5 1 start l → (start ≡ 6) × (l ≡ 4 ∷ 2 ∷ [])
   pub part-out : (rest : List ℕ) (start : ℕ) (l : List ℕ) → PartAt limit (1 ∷ 0 ∷ 4 ∷ 1 ∷ 1 ∷ 0 ∷ 4 ∷ 2 ∷ 0 ∷ 0 ∷ rest) 5 2 start l → (start ≡ 0) × (l ≡ [])
 
--- The run: reasons 1 (ended), 2 (steps) and 3 (room), the nodes, the steps taken.
+-- The six counts: of no step, of one by beta, of one by guard.
+abbrev pub no-step : List ℕ
+no-step = 0 ∷ 0 ∷ 0 ∷ 0 ∷ 0 ∷ 0 ∷ []
+
+abbrev pub one-beta : List ℕ
+one-beta = 0 ∷ 1 ∷ 0 ∷ 0 ∷ 0 ∷ 0 ∷ []
+
+abbrev pub one-guard : List ℕ
+one-guard = 0 ∷ 0 ∷ 0 ∷ 1 ∷ 0 ∷ 0 ∷ []
+
+-- The run: reasons 1 (ended), 2 (steps) and 3 (room), the nodes, the steps taken, the counts. A step that is planned and not taken is not counted.
 pub record RunBoundaries : Type 0 where
   -- "The table then holds the end program followed by zeros, and the work table zeros only": `((g c1 c2))` in a table of 11 numbers, with a work table of 10
   pub zeros : (a b c d e f g h i j k : ℕ) (v : Values) (t w : List ℕ) →
       RunsWith limit (1 ∷ 0 ∷ 9 ∷ 0 ∷ 4 ∷ 1 ∷ 4 ∷ 2 ∷ 0 ∷ 0 ∷ a ∷ []) 5 (b ∷ c ∷ d ∷ e ∷ f ∷ g ∷ h ∷ i ∷ j ∷ k ∷ []) 1 v t w →
-      (v ≡ record { refusal = 0; values = 1 ∷ 3 ∷ 1 ∷ [] }) × (t ≡ 1 ∷ 0 ∷ 4 ∷ 2 ∷ 0 ∷ 0 ∷ 0 ∷ 0 ∷ 0 ∷ 0 ∷ 0 ∷ []) × (w ≡ replicate 10 0)
+      (v ≡ record { refusal = 0; values = 1 ∷ 3 ∷ 1 ∷ one-guard }) × (t ≡ 1 ∷ 0 ∷ 4 ∷ 2 ∷ 0 ∷ 0 ∷ 0 ∷ 0 ∷ 0 ∷ 0 ∷ 0 ∷ []) × (w ≡ replicate 10 0)
   -- "else the limit is used": of an open program with the limit 0
-  pub no-steps : (rest work : List ℕ) (v : Values) (t w : List ℕ) → 10 ≤ length work → RunsWith limit (1 ∷ 0 ∷ 9 ∷ 0 ∷ 4 ∷ 1 ∷ 4 ∷ 2 ∷ 0 ∷ 0 ∷ rest) 5 work 0 v t w → v ≡ record { refusal = 0; values = 2 ∷ 5 ∷ 0 ∷ [] }
+  pub no-steps : (rest work : List ℕ) (v : Values) (t w : List ℕ) → 10 ≤ length work → RunsWith limit (1 ∷ 0 ∷ 9 ∷ 0 ∷ 4 ∷ 1 ∷ 4 ∷ 2 ∷ 0 ∷ 0 ∷ rest) 5 work 0 v t w → v ≡ record { refusal = 0; values = 2 ∷ 5 ∷ 0 ∷ no-step }
   -- "in that order": an end is told before the limit, and the limit before the room
-  pub end-first : (rest work : List ℕ) (v : Values) (t w : List ℕ) → 6 ≤ length work → RunsWith limit (1 ∷ 0 ∷ 4 ∷ 1 ∷ 0 ∷ 0 ∷ rest) 3 work 0 v t w → v ≡ record { refusal = 0; values = 1 ∷ 3 ∷ 0 ∷ [] }
+  pub end-first : (rest work : List ℕ) (v : Values) (t w : List ℕ) → 6 ≤ length work → RunsWith limit (1 ∷ 0 ∷ 4 ∷ 1 ∷ 0 ∷ 0 ∷ rest) 3 work 0 v t w → v ≡ record { refusal = 0; values = 1 ∷ 3 ∷ 0 ∷ no-step }
   pub limit-first : {table : List ℕ} {count : ℕ} (work : List ℕ) (v : Values) (t w : List ℕ) → TableOf limit table count (program-of (twice 4)) → length table ≡ 39 → length work ≡ 39 → RunsWith limit table count work 0 v t w →
-      v ≡ record { refusal = 0; values = 2 ∷ 18 ∷ 0 ∷ [] }
+      v ≡ record { refusal = 0; values = 2 ∷ 18 ∷ 0 ∷ no-step }
   -- "else the next result exceeds the room": 18 nodes become 20, in two tables of 20 nodes, and where one of them is a number shorter
   pub room-in : {table : List ℕ} {count : ℕ} (work : List ℕ) (v : Values) (t w : List ℕ) → TableOf limit table count (program-of (twice 4)) → length table ≡ 40 → length work ≡ 40 → RunsWith limit table count work 1 v t w →
-      v ≡ record { refusal = 0; values = 2 ∷ 20 ∷ 1 ∷ [] }
+      v ≡ record { refusal = 0; values = 2 ∷ 20 ∷ 1 ∷ one-beta }
   pub table-short : {table : List ℕ} {count : ℕ} (work : List ℕ) (v : Values) (t w : List ℕ) → TableOf limit table count (program-of (twice 4)) → length table ≡ 39 → length work ≡ 40 → RunsWith limit table count work 1 v t w →
-      v ≡ record { refusal = 0; values = 3 ∷ 18 ∷ 0 ∷ [] }
+      v ≡ record { refusal = 0; values = 3 ∷ 18 ∷ 0 ∷ no-step }
   pub work-short : {table : List ℕ} {count : ℕ} (work : List ℕ) (v : Values) (t w : List ℕ) → TableOf limit table count (program-of (twice 4)) → length table ≡ 40 → length work ≡ 39 → RunsWith limit table count work 1 v t w →
-      v ≡ record { refusal = 0; values = 3 ∷ 18 ∷ 0 ∷ [] }
+      v ≡ record { refusal = 0; values = 3 ∷ 18 ∷ 0 ∷ no-step }
   -- "and 2,048", however long the tables are
   pub limit-in : {table : List ℕ} {count : ℕ} (work : List ℕ) (v : Values) (t w : List ℕ) → TableOf limit table count (program-of (twice 1018)) → 5000 ≤ length table → 5000 ≤ length work → RunsWith limit table count work 1 v t w →
-      v ≡ record { refusal = 0; values = 2 ∷ 2048 ∷ 1 ∷ [] }
+      v ≡ record { refusal = 0; values = 2 ∷ 2048 ∷ 1 ∷ one-beta }
   pub limit-out : {table : List ℕ} {count : ℕ} (work : List ℕ) (v : Values) (t w : List ℕ) → TableOf limit table count (program-of (twice-and-one 1018)) → 5000 ≤ length table → 5000 ≤ length work → RunsWith limit table count work 1 v t w →
-      v ≡ record { refusal = 0; values = 3 ∷ 1033 ∷ 0 ∷ [] }
+      v ≡ record { refusal = 0; values = 3 ∷ 1033 ∷ 0 ∷ no-step }

@@ -6,8 +6,8 @@ use lib.ListN.{length, getD}
 use Rattle.calculus.specs.declared.Reason.the-variants.{Ended}
 use Rattle.calculus.specs.Tree.{program-of}
 use Rattle.calculus.specs.Run.{size}
-use Rattle.calculus.specs.Answers.{standingCode, Values}
-use Rattle.calculus.specs.Calls.{front, Reads, TableOf, Writes, StepsInto, end-table, ran-values, RunsWith, StandsAt}
+use Rattle.calculus.specs.Answers.{reasonCode, standingCode, Values}
+use Rattle.calculus.specs.Calls.{front, Reads, TableOf, Writes, StepsInto, end-table, RunsWith, StandsAt}
 use Rattle.calculus.specs.Known.{Known, ascii}
 use Rattle.mespindro.specs.Limit.{limit}
 
@@ -19,10 +19,10 @@ pub record RightCall (k : Known) : Type 0 where
   -- its table is written as its text
   pub writes : (table out : List ℕ) (v : Values) (o : List ℕ) → length (ascii (k .written)) ≤ length out → TableOf limit table (size (k .program)) (program-of (k .program)) → Writes limit table (size (k .program)) out v o →
       (v ≡ record { refusal = 0; values = length (ascii (k .written)) ∷ [] }) × (o ≡ front (ascii (k .written)) out)
-  -- its run of 10,000 steps in tables of 2,048 nodes ends in its end after its steps, and the table then holds that end
+  -- its run of 10,000 steps in tables of 2,048 nodes ends in its end after its steps, with its counts, and the table then holds that end
   pub runs : (table work : List ℕ) (v : Values) (t w : List ℕ) → length table ≡ 2 * limit → length work ≡ 2 * limit → TableOf limit table (size (k .program)) (program-of (k .program)) →
       RunsWith limit table (size (k .program)) work 10000 v t w →
-      (v ≡ ran-values (record { reason = Ended; taken = k .steps; last = k .end })) × (t ≡ end-table table (k .end)) × TableOf limit t (size (k .end)) (program-of (k .end))
+      (v ≡ record { refusal = 0; values = reasonCode Ended ∷ size (k .end) ∷ k .steps ∷ k .counts }) × (t ≡ end-table table (k .end)) × TableOf limit t (size (k .end)) (program-of (k .end))
   -- a single step of its end is refused with 11
   pub single : (table out : List ℕ) (v : Values) (o : List ℕ) → TableOf limit table (size (k .end)) (program-of (k .end)) → StepsInto limit table (size (k .end)) out v o → (v .refusal ≡ 11) × (o ≡ out)
   -- the threads of its end stand as told

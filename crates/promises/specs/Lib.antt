@@ -1,5 +1,6 @@
 pub mod Exactly
 pub mod Worked
 pub mod Heads
+pub mod Rules
 pub mod Calls
 pub mod Boundaries

@@ -6,6 +6,8 @@ use mathlib.Core.Bool.{true}
 use mathlib.Core.List.{List, [], _∷_, _++_}
 use Prim.Native.Nat.{ℕ, _+_, _*_, _≤_}
 use lib.ListN.{length, take, replicate}
+use Rattle.calculus.specs.declared.Rule.{Rule}
+use Rattle.calculus.specs.declared.Counts.{Counts}
 use Rattle.calculus.specs.declared.Standing.{Standing}
 use Rattle.calculus.specs.Tree.{term, program, unif, Tree, two, ok, preorder, nodes, threads, program-of}
 use Rattle.calculus.specs.Put.{put-in, substitute}
@@ -19,8 +21,9 @@ use Rattle.calculus.specs.Normal.{Stuck}
 use Rattle.calculus.specs.Step.{Step}
 use Rattle.calculus.specs.Choice.{Rewritable, Chosen, Choices}
 use Rattle.calculus.specs.Run.{End, IsRun, size, next-program, holds-nodes, room-of}
+use Rattle.calculus.specs.Tally.{count-of, sum, steps-by}
 use Rattle.calculus.specs.Text.{text}
-use Rattle.calculus.specs.Answers.{standingCode, Values}
+use Rattle.calculus.specs.Answers.{ruleCode, standingCode, Values}
 use Rattle.calculus.specs.Calls.{front, Reads, TableOf, end-table, ran-values, ThreadOf, StandsAt, PartAt}
 use Rattle.table.specs.Nodes.{kindAt}
 
@@ -66,7 +69,8 @@ pub record Settled (ts : List (Tree term)) (s : Step) (c : Chosen ts s) (v w : T
   pub kept : (((τ : Substitution) → Solves τ v w → ⊥) → ⊥) →
       (σ : Substitution) × (Unifier v w σ × (s .result ≡ c .reduces .before ++ (substitute σ (plug (c .reduces .context) ok) ∷ c .reduces .after)))
 
--- An accepted step: the table holds a good program, and the output begins with exactly what document 01's rewriting of it gives, a good program again.
+-- An accepted step: the table holds a good program, and the output begins with exactly what document 01's rewriting of it gives, a good program again. The rule and
+-- the thread told are that rewriting's: so many threads stand before it, none of which a rule rewrites.
 pub record HasStepped (n : ℕ) (table : List ℕ) (count : ℕ) (out : List ℕ) (v : Values) (o : List ℕ) : Type 0 where
   pub program : Tree program
   pub table-of : TableOf n table count program
@@ -75,13 +79,13 @@ pub record HasStepped (n : ℕ) (table : List ℕ) (count : ℕ) (out : List ℕ
   pub chosen : Chosen (threads program) step
   pub goal : (x y : Tree term) → chosen .reduces .redex ≡ two unif x y → Settled (threads program) step chosen x y
   pub fits : size (step .result) ≤ holds-nodes out
-  pub values : v .values ≡ size (step .result) ∷ []
+  pub values : v .values ≡ size (step .result) ∷ ruleCode (step .rule) ∷ step .thread ∷ []
   pub left : o ≡ front (preorder (program-of (step .result))) out
   pub result-good : Good n (program-of (step .result))
   pub back : TableOf n o (size (step .result)) (program-of (step .result))
 
 -- An accepted run: the table holds a good program; the end is that of the run as it is said without running it, by as many of document 003's rewritings as are
--- told, each of them the one that document 01 picks; the table holds the end, a good program again, and then zeros, and the work table zeros.
+-- told, each of them the one that document 01 picks; the count told for a rule is the number of those by that rule, and their sum the steps; the table holds the end, a good program again, and then zeros, and the work table zeros.
 pub record HasRun (n : ℕ) (table : List ℕ) (count : ℕ) (work : List ℕ) (limit : ℕ) (v : Values) (t w : List ℕ) : Type 0 where
   pub program : Tree program
   pub table-of : TableOf n table count program
@@ -90,7 +94,10 @@ pub record HasRun (n : ℕ) (table : List ℕ) (count : ℕ) (work : List ℕ) (
   pub is-run : IsRun next-program size (room-of n table work) limit (threads program) end
   pub rewritings : Reductions (end .taken) (threads program) (end .last)
   pub choices : Choices (end .taken) (threads program) (end .last)
-  pub values : v ≡ ran-values end
+  pub counts : Counts
+  pub counted : (d : Choices (end .taken) (threads program) (end .last)) (r : Rule) → count-of r counts ≡ steps-by r d
+  pub summed : sum counts ≡ end .taken
+  pub values : v ≡ ran-values end counts
   pub left : t ≡ end-table table (end .last)
   pub cleared : w ≡ replicate (length work) 0
   pub result-good : Good n (program-of (end .last))

@@ -1,0 +1,105 @@
+-- Request 2 over the calls: the sum of a run's counts, what becomes of them with further alternatives and with further steps, and the thread of one step after another.
+use mathlib.Core.Path.{_≡_, refl, sym, ap, subst, _∙_}
+use mathlib.Core.List.{List, _++_}
+use mathlib.Core.Option.{some}
+use Prim.Native.Nat.{ℕ, _+_, _-_, _≤_}
+use native.Mathlib.Omega.{arith}
+use lib.ListN.{length, getD, replicate}
+use Rattle.calculus.specs.declared.Reason.the-variants.{Steps}
+use Rattle.calculus.specs.declared.Rule.{Rule}
+use Rattle.calculus.specs.declared.Rule.the-variants.{Alloc, Beta, Fresh, Guard, Unif, Fail}
+use Rattle.calculus.specs.declared.Counts.{Counts}
+use Rattle.calculus.specs.Tree.{term, program, Tree, preorder, threads, program-of}
+use Rattle.calculus.specs.Step.{Step, step}
+use Rattle.calculus.specs.Run.{End, size, run, room-of}
+use Rattle.calculus.specs.Tally.{count-of, run-counts}
+use Rattle.calculus.specs.Answers.{reasonCode, Values}
+use Rattle.calculus.specs.Calls.{TableOf, end-table, ran-values, RunsWith, ran, not-run}
+use Rattle.calculus.proofs.Preorders.{nodes-positive, threads-of-program, program-of-threads, size-append}
+use Rattle.calculus.proofs.Answers.{number-positive, reason-injective}
+use Rattle.calculus.proofs.Outcomes.{table-of-unique}
+use Rattle.calculus.proofs.Steps.{chosen-step}
+use Rattle.calculus.proofs.Tallies.{counts-behind, run-on, counts-add, thread-never-falls}
+use Rattle.promises.specs.Worked.{HasRun, HasStepped}
+use Rattle.promises.specs.Heads.{size-told, Run}
+use Rattle.promises.specs.Rules.{reason-told, steps-told, count-told, SumTold, NoCountFalls, AddsUp, CountsAddUp, nodes-told, thread-told, ThreadNeverFalls}
+use Rattle.promises.proofs.Refused.{run-length}
+use Rattle.promises.proofs.Worked.{run-gives, step-gives}
+use Rattle.promises.proofs.Heads.{Behind, behind-there, end-is, end-there}
+
+-- the count told for a rule is that rule's
+count-is : (r : Rule) (e : End (List (Tree term))) (c : Counts) → count-told r (ran-values e c) ≡ count-of r c
+count-is Alloc e c = refl
+count-is Beta e c = refl
+count-is Fresh e c = refl
+count-is Guard e c = refl
+count-is Unif e c = refl
+count-is Fail e c = refl
+
+-- "Their sum is the step count."
+pub sum-told : SumTold
+sum-told n a = let h = run-gives (a .runs) (a .accepted) in rw (h .values) (h .summed)
+
+-- what an accepted run of these threads tells and leaves
+pub record RunOf (n : ℕ) (a : Run n) (p : List (Tree term)) : Type 0 where
+  pub told : let room = room-of n (a .table) (a .work) in a .told ≡ ran-values (run room (a .limit) p) (run-counts room (a .limit) p)
+  pub left : a .left ≡ end-table (a .table) (run (room-of n (a .table) (a .work)) (a .limit) p .last)
+
+run-of-these : {n : ℕ} {table : List ℕ} {count : ℕ} {work : List ℕ} {limit : ℕ} {v : Values} {t w : List ℕ} → RunsWith n table count work limit v t w → v .refusal ≡ 0 → (p : List (Tree term)) → TableOf n table count (program-of p) →
+    let room = room-of n table work in (v ≡ ran-values (run room limit p) (run-counts room limit p)) × (t ≡ end-table table (run room limit p .last))
+run-of-these (ran q a t) z p f = let e : threads q ≡ p = ap threads (table-of-unique t f) ∙ threads-of-program p in rw e (refl, refl)
+run-of-these (not-run r g) z p f = absurd (omega (arith, number-positive r))
+
+run-these : {n : ℕ} (a : Run n) (p : List (Tree term)) → TableOf n (a .table) (a .count) (program-of p) → RunOf n a p
+run-these a p f = let e = run-of-these (a .runs) (a .accepted) p f in record { told = e .0; left = e .1 }
+
+counts-told : {n : ℕ} {a : Run n} {p : List (Tree term)} → RunOf n a p → (r : Rule) → count-told r (a .told) ≡ count-of r (run-counts (room-of n (a .table) (a .work)) (a .limit) p)
+counts-told {n} {a} {p} h r =
+    let room = room-of n (a .table) (a .work) in
+    ap (count-told r) (h .told) ∙ count-is r (run room (a .limit) p) (run-counts room (a .limit) p)
+
+-- with further alternatives behind, as many steps and room for them, no count falls
+pub no-count-falls : NoCountFalls
+no-count-falls n a b f r =
+    let h = behind-there n a b f in
+    omega (arith, counts-told (run-these a (h .these) (h .first)) r, counts-told (run-these b (h .these ++ h .others) (h .second)) r, counts-behind (h .these) (h .others) (a .limit) (b .limit) (room-of n (a .table) (a .work)) (room-of n (b .table) (b .work)) (f .steps) (h .room) r)
+
+-- The run a stopped by steps, b goes on with what it left, `whole` is the one run.
+pub counts-add-up : CountsAddUp
+counts-add-up n a b whole g =
+    let h = run-gives (a .runs) (a .accepted) in
+    let p = threads (h .program) in
+    let room = room-of n (a .table) (a .work) in
+    let there : TableOf n (a .table) (a .count) (program-of p) = rw program-of-threads (h .table-of) in
+    let first = run-these a p there in
+    let E = run room (a .limit) p .last in
+    let next : TableOf n (b .table) (b .count) (program-of E) = rw (g .table, g .count, ← end-is h p there) (end-there h) in
+    let second = run-these b E next in
+    let all : TableOf n (whole .table) (whole .count) (program-of p) = rw (g .whole-table, g .whole-count) there in
+    let third = run-these whole p all in
+    let stopped : run room (a .limit) p .reason ≡ Steps = reason-injective (run room (a .limit) p .reason) Steps (sym (ap reason-told (first .told)) ∙ g .stopped) in
+    let add : (r : Rule) → count-told r (whole .told) ≡ count-told r (a .told) + count-told r (b .told) =
+    λ r. let x = rw (g .whole-room, g .whole-steps) at (counts-told third r) in let y = rw (g .room) at (counts-told second r) in omega (arith, x, y, counts-told first r, counts-add room (a .limit) (b .limit) p stopped r) in
+    let long : length (whole .table) ≡ length (b .table) = ap length (g .whole-table) ∙ sym (run-length (a .runs) .0) ∙ sym (ap length (g .table)) in
+    let last : run room (a .limit + b .limit) p .last ≡ run room (b .limit) E .last = ap (λ (e : End (List (Tree term))). e .last) (run-on room (a .limit) (b .limit) p stopped) in
+    record {
+      counts = add;
+      steps = omega (arith, sum-told n a, sum-told n b, sum-told n whole, add Alloc, add Beta, add Fresh, add Guard, add Unif, add Fail);
+      left = (rw (g .whole-room, g .whole-steps, last) at (third .left)) ∙ same-end (whole .table) (b .table) (run room (b .limit) E .last) long ∙ sym (rw (g .room) at (second .left));
+    }
+  where
+    -- an end is left alike in tables of one length
+    same-end : (s t : List ℕ) (q : List (Tree term)) → length s ≡ length t → end-table s q ≡ end-table t q
+    same-end s t q e = ap (λ (m : ℕ). preorder (program-of q) ++ replicate (m - length (preorder (program-of q))) 0) e
+
+-- from one single step to the next the thread told never falls
+pub single-never-falls : ThreadNeverFalls
+single-never-falls n a b t c =
+    let h = step-gives (a .steps) (a .accepted) in
+    let k = step-gives (b .steps) (b .accepted) in
+    let told : nodes-told (a .told) ≡ size (h .step .result) = ap (λ (l : List ℕ). getD l 0 0) (h .values) in
+    let there : TableOf n (b .table) (b .count) (program-of (h .step .result)) = rw (t, c, told) (h .back) in
+    let same : threads (k .program) ≡ h .step .result = ap threads (table-of-unique (k .table-of) there) ∙ threads-of-program (h .step .result) in
+    let one : step (threads (h .program)) ≡ some (h .step) = chosen-step (threads (h .program)) (h .good .coherent) (h .chosen) in
+    let two : step (h .step .result) ≡ some (k .step) = rw same at (chosen-step (threads (k .program)) (k .good .coherent) (k .chosen)) in
+    omega (arith, thread-never-falls (threads (h .program)) one two, ap (λ (l : List ℕ). getD l 2 0) (h .values), ap (λ (l : List ℕ). getD l 2 0) (k .values))
