@@ -5,10 +5,12 @@ use Prim.Native.Nat.{ℕ, _*_, _≤_}
 use native.Mathlib.Omega.{arith}
 use lib.ListN.{length, getD, drop, replicate, length-append, length-replicate}
 use Rattle.calculus.specs.declared.Reason.{Reason}
+use Rattle.calculus.specs.declared.Counts.{Counts}
 use Rattle.calculus.specs.declared.Refusal.{Refusal}
 use Rattle.calculus.specs.Tree.{term, Tree, nodes, threads, program-of}
 use Rattle.calculus.specs.Run.{End, run, room-of}
-use Rattle.calculus.specs.Answers.{number, reasonCode, Values}
+use Rattle.calculus.specs.Tally.{run-counts}
+use Rattle.calculus.specs.Answers.{number, reasonCode, Values, six}
 use Rattle.calculus.specs.Calls.{Reads, TableOf, ran-values, RunsWith}
 use Rattle.calculus.specs.Report.{report, refusal-report, reported, refused}
 use Rattle.calculus.proofs.Answers.{number-positive, reason-injective, same-value, number-small}
@@ -30,8 +32,8 @@ pub zeros-long : length (replicate {A = ℕ} (2 * limit) 0) ≡ 2 * limit
 zeros-long = length-replicate {A = ℕ} (2 * limit) 0
 
 -- what a run that stopped returns
-abbrev pub stopped : Reason → ℕ → ℕ → Values
-stopped r m k = record { refusal = 0; values = reasonCode r ∷ m ∷ k ∷ [] }
+abbrev pub stopped : Reason → ℕ → ℕ → Counts → Values
+stopped r m k c = record { refusal = 0; values = reasonCode r ∷ m ∷ k ∷ six c }
 
 -- The run of the program in the table, in a work table as long, for so many steps as are allowed.
 module _ {table : List ℕ} {count : ℕ} {work : List ℕ} {allowed : ℕ} {v : Values} {t w : List ℕ} (h : Loaded limit table count) (long : length work ≡ 2 * limit) (c : RunsWith limit table count work allowed v t w) where
@@ -41,7 +43,7 @@ module _ {table : List ℕ} {count : ℕ} {work : List ℕ} {allowed : ℕ} {v :
   room-is : room-of limit table work ≡ limit
   room-is = omega arith
 
-  run-values : v ≡ ran-values loaded-end
+  run-values : v ≡ ran-values loaded-end (run-counts limit allowed (threads (h .holds .program-there)))
   run-values = let g = h .holds in rw room-is at (good-runs (g .table-of) (g .good) (omega (arith, g .table-of .small)) c .0)
 
   has-run : HasRun limit table count work allowed v t w
@@ -54,8 +56,8 @@ module _ {table : List ℕ} {count : ℕ} {work : List ℕ} {allowed : ℕ} {v :
   pub run-not-refused : (q : Refusal) → v .refusal ≡ number q → ⊥
   run-not-refused q f = omega (arith, number-positive q, ap (λ (x : Values). x .refusal) run-values)
 
-  module _ (r : Reason) {m k : ℕ} (f : v ≡ stopped r m k) where
-    value : (i : ℕ) → getD (reasonCode r ∷ m ∷ k ∷ []) i 0 ≡ getD (ran-values (has-run .end) .values) i 0
+  module _ (r : Reason) {m k : ℕ} {d : Counts} (f : v ≡ stopped r m k d) where
+    value : (i : ℕ) → getD (stopped r m k d .values) i 0 ≡ getD (ran-values (has-run .end) (has-run .counts) .values) i 0
     value i = same-value i (sym f ∙ has-run .values)
 
     reason-is : r ≡ has-run .end .reason
