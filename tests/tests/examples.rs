@@ -64,6 +64,7 @@ fn cases() -> Vec<(&'static str, String, i32)> {
     ];
     let renewal = [
         "stopped after 2025 steps for want of room: not ended",
+        "  alloc 2, beta 1012, fresh 0, guard 0, unif 1011, fail 0",
         "thread 0: open, there was more to do",
     ];
     let standing = [
