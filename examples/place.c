@@ -94,6 +94,12 @@ static int print_threads(size_t nodes) {
     }
 }
 
+/* What a run that did not end has spent its steps on: the rules of the calculus, with how often each was used. */
+static void print_counts(struct mespindro_counts counts) {
+    printf("  alloc %lu, beta %lu, fresh %lu, guard %lu, unif %lu, fail %lu\n", (unsigned long)counts.alloc, (unsigned long)counts.beta,
+           (unsigned long)counts.fresh, (unsigned long)counts.guard, (unsigned long)counts.unif, (unsigned long)counts.fail);
+}
+
 static int place(size_t length) {
     struct mespindro_count read = mespindro_read(text, length, table, MESPINDRO_TABLE);
     if (read.refusal != MESPINDRO_ACCEPTED) return refused("read", read.refusal);
@@ -101,6 +107,7 @@ static int place(size_t length) {
     if (stop.refusal != MESPINDRO_ACCEPTED) return refused("run", stop.refusal);
     if (stop.reason == MESPINDRO_STEPS) printf("stopped after %lu steps: not ended\n", (unsigned long)stop.steps);
     if (stop.reason == MESPINDRO_ROOM) printf("stopped after %lu steps for want of room: not ended\n", (unsigned long)stop.steps);
+    if (stop.reason != MESPINDRO_ENDED) print_counts(stop.counts);
     int all = print_threads(stop.nodes);
     return all && stop.reason == MESPINDRO_ENDED;
 }

@@ -63,6 +63,16 @@ enum {
     MESPINDRO_FINISHED = 11        /* a single step is asked for and every thread is finished */
 };
 
+/* The six rules of a step; 0 where it was refused. */
+enum {
+    MESPINDRO_RULE_ALLOC = 1, /* an abstraction has got its location */
+    MESPINDRO_RULE_BETA = 2,  /* an allocated abstraction was applied to a value; where its body is empty the thread is dropped */
+    MESPINDRO_RULE_FRESH = 3, /* a fresh variable has got its number */
+    MESPINDRO_RULE_GUARD = 4, /* a guard whose left part is a value has become its right part */
+    MESPINDRO_RULE_UNIF = 5,  /* two values were made equal */
+    MESPINDRO_RULE_FAIL = 6   /* two values cannot be made equal: the thread is dropped */
+};
+
 /* Why a run stopped; 0 where it was refused. */
 enum {
     MESPINDRO_ENDED = 1, /* every thread is finished */
@@ -84,9 +94,28 @@ struct mespindro_count {
     uint16_t refusal;
 };
 
+/* A step that was made. */
+struct mespindro_move {
+    size_t nodes;     /* at the front of the output; what stood behind them is left as it was */
+    uint32_t thread;  /* the one that was worked on: its number from 0 in the program before the step */
+    uint16_t rule;
+    uint16_t refusal;
+};
+
+/* How many of a run's steps each rule made. */
+struct mespindro_counts {
+    uint32_t alloc;
+    uint32_t beta;
+    uint32_t fresh;
+    uint32_t guard;
+    uint32_t unif;
+    uint32_t fail;
+};
+
 struct mespindro_stop {
-    size_t nodes;     /* of the program that the table holds now */
-    uint32_t steps;   /* taken */
+    size_t nodes;                    /* of the program that the table holds now */
+    uint32_t steps;                  /* taken */
+    struct mespindro_counts counts;  /* their sum is `steps` */
     uint16_t reason;
     uint16_t refusal;
 };
@@ -108,14 +137,14 @@ struct mespindro_count mespindro_read(const uint8_t *text, size_t text_length, u
 /* Writes the text of the program in a table. 24,576 bytes hold every text. Refuses 1, 6, 8, 9. */
 struct mespindro_count mespindro_write(const uint16_t *table, size_t table_length, size_t count, uint8_t *out, size_t out_length);
 
-/* One step. Refuses 1, 6, 7, 8, 9, 11. The stack of a step and of a run grows with nesting, to some 190 kilobytes on the deepest
- * programs of 2,048 nodes that were tried (docs/LIMITS.md); shorter tables bound it. */
-struct mespindro_count mespindro_step(const uint16_t *table, size_t table_length, size_t count, uint16_t *out, size_t out_length);
+/* One step: the program after it, by which rule, in which thread. Refuses 1, 6, 7, 8, 9, 11. The stack of a step and of a run grows with
+ * nesting, to some 190 kilobytes on the deepest programs of 2,048 nodes that were tried (docs/LIMITS.md); shorter tables bound it. */
+struct mespindro_move mespindro_step(const uint16_t *table, size_t table_length, size_t count, uint16_t *out, size_t out_length);
 
 /* Runs the program in a table for at most `most` steps. Its room is the least of table_length / 2, work_length / 2 and 2,048 nodes. Accepted,
  * the table holds the end program and then zeros to its very end, and the work table zeros only. A run that stopped by steps or by room goes
- * on when it is called again with `nodes` as the count (after room: in larger tables). It cannot be interrupted: choose `most` so that a call
- * is short enough. Refuses 1, 6, 8, 9. */
+ * on when it is called again with `nodes` as the count (after room: in larger tables); `steps` and `counts` are of the one call. It cannot be
+ * interrupted: choose `most` so that a call is short enough. Refuses 1, 6, 8, 9. */
 struct mespindro_stop mespindro_run(uint16_t *table, size_t table_length, size_t count, uint16_t *work, size_t work_length, uint32_t most);
 
 /* How thread k stands, counted from 0. Refuses 1, 6, 8, 10. */

@@ -6,6 +6,7 @@
 use std::process::ExitCode;
 
 use mespindro_tests::binding::{self, Reason, Refusal, Standing};
+use mespindro_tests::rules::spent;
 
 /// The numbers of the rule sets in rules/.
 const PLACEMENT: u16 = 3;
@@ -115,6 +116,9 @@ fn place(text: &[u8]) -> bool {
         Reason::Ended => {}
         Reason::Steps => println!("stopped after {steps} steps: not ended"),
         Reason::Room => println!("stopped after {steps} steps for want of room: not ended"),
+    }
+    if stop.reason != Reason::Ended {
+        println!("  {}", spent(&stop.counts));
     }
     print_threads(&table, stop.nodes) && stop.reason == Reason::Ended
 }

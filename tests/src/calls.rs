@@ -77,7 +77,7 @@ fn on_table(table: &[u16], count: usize, random: &mut Random) -> Vec<Call> {
         calls.push(Call::Write { table, count, out });
     }
     let result = evaluator::step(table, count, usize::MAX);
-    let result = result.and_then(Result::ok).map_or(0, |t| t.len());
+    let result = result.and_then(Result::ok).map_or(0, |(_, t)| t.len());
     for out in around(result, &[0, 2 * NODES, 2 * NODES + 1]) {
         let table = table.to_vec();
         calls.push(Call::Step { table, count, out });
@@ -138,14 +138,14 @@ fn sizes_of_run(table: &[u16], count: usize) -> (Vec<usize>, bool) {
     };
     for _ in 0..MOST_STEPS {
         match step(&program) {
-            Step::To(_, next) if program_size(&next) <= NODES => program = next,
+            Step::To(_, _, next) if program_size(&next) <= NODES => program = next,
             Step::TooLarge => return (sizes, false),
             _ => return (sizes, true),
         }
         sizes.push(program_size(&program));
     }
     let more = evaluator::run_program(program, NODES, 0);
-    (sizes, matches!(more, Some((Reason::Ended, _, _))))
+    (sizes, more.is_some_and(|run| run.reason == Reason::Ended))
 }
 
 /// Each call once, in memory that is large enough.

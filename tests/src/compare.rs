@@ -127,10 +127,13 @@ pub fn step(table: &[u16], count: usize, out: usize) -> Comparison {
     let mut output = Lent::filled(FILL, out);
     let got = binding::step(table.part(), count, output.part_mut());
     table.kept("the table")?;
-    match evaluator::step(table.part(), count, out) {
-        Some(expected) => filled(got, &expected, 2, &output),
-        None => Ok(None),
-    }
+    let Some(expected) = evaluator::step(table.part(), count, out) else {
+        return Ok(None);
+    };
+    let answer = expected.as_ref().map(|(made, _)| *made).map_err(|r| *r);
+    same("the answer", &got, &answer)?;
+    let nodes = got.map(|made| made.nodes);
+    filled(nodes, &expected.map(|(_, result)| result), 2, &output)
 }
 
 pub fn run(table: &[u16], count: usize, work: usize, most: u32) -> Comparison {

@@ -1,6 +1,6 @@
 //! Rule sets in files: readable or canonical; running one by the library and describing its end.
 
-use crate::binding::{self, Reason, Refusal, Standing, Stop};
+use crate::binding::{self, Counts, Reason, Refusal, Rule, Standing, Stop};
 use crate::evaluator::tree::{free_variables, locations};
 use crate::notation::{self, Error, Names, Term};
 use std::collections::BTreeSet;
@@ -57,7 +57,7 @@ pub fn run(text: &[u8], steps: u32) -> Result<End, Refusal> {
     })
 }
 
-/// The end in words: reason, steps and nodes, then each thread with its standing and what it leaves undecided.
+/// The end in words: reason, steps and nodes, what the steps were, then each thread with its standing and what it leaves undecided.
 pub fn describe(end: &End, names: &Names) -> String {
     let reason = match end.stop.reason {
         Reason::Ended => "ended",
@@ -66,6 +66,7 @@ pub fn describe(end: &End, names: &Names) -> String {
     };
     let Stop { steps, nodes, .. } = end.stop;
     let mut out = format!("{reason}, {steps} steps, {nodes} nodes\n");
+    out += &format!("  {}\n", spent(&end.stop.counts));
     for (k, (standing, term)) in end.threads.iter().enumerate() {
         let word = match standing {
             Standing::Answer => "answer",
@@ -78,6 +79,12 @@ pub fn describe(end: &End, names: &Names) -> String {
         out.push('\n');
     }
     out
+}
+
+/// The six counts with their names, those that are 0 too.
+pub fn spent(counts: &Counts) -> String {
+    let named = Rule::ALL.map(|rule| format!("{} {}", rule.name(), counts.of(rule)));
+    named.join(", ")
 }
 
 /// The variables that a thread leaves free, and the closures that a partial one leaves in the place of a plain value.

@@ -1,6 +1,7 @@
 //! What each call leaves in lent memory.
 
-use mespindro_tests::binding::{self, Reason, Refusal, Standing, Stop};
+use mespindro_tests::binding::{self, Move, Reason, Refusal, Rule, Standing, Stop};
+use mespindro_tests::evaluator::counts;
 
 /// The table of `((g c1 c2))`, 5 nodes.
 const G: [u16; 10] = [1, 0, 9, 0, 4, 1, 4, 2, 0, 0];
@@ -24,11 +25,12 @@ fn run(
     assert_eq!(work, work_after);
 }
 
-fn stop(reason: Reason, nodes: usize, steps: u32) -> Result<Stop, Refusal> {
+fn stop(reason: Reason, nodes: usize, rules: &[Rule]) -> Result<Stop, Refusal> {
     Ok(Stop {
         reason,
         nodes,
-        steps,
+        steps: rules.len() as u32,
+        counts: counts(rules),
     })
 }
 
@@ -36,12 +38,12 @@ fn stop(reason: Reason, nodes: usize, steps: u32) -> Result<Stop, Refusal> {
 fn accepted_runs_leave_zeros() {
     let b1 = with(&[77]);
     let end = [1, 0, 4, 2, 0, 0, 0, 0, 0, 0, 0, 0];
-    let ended = stop(Reason::Ended, 3, 1);
+    let ended = stop(Reason::Ended, 3, &[Rule::Guard]);
     run((&b1, 5), &[5; 11], 10, ended, (&end[..11], &[0; 11]));
-    let steps = stop(Reason::Steps, 5, 0);
+    let steps = stop(Reason::Steps, 5, &[]);
     run((&b1, 5), &[5; 11], 0, steps, (&with(&[0]), &[0; 11]));
     run((&with(&[7, 7]), 5), &[5; 10], 10, ended, (&end, &[0; 10]));
-    let none = stop(Reason::Ended, 1, 0);
+    let none = stop(Reason::Ended, 1, &[]);
     run((&[0, 0, 7], 1), &[5; 3], 0, none, (&[0, 0, 0], &[0; 3]));
     println!("B1, B2, B5, B6: 4 cases");
 }
@@ -67,9 +69,14 @@ fn refused_runs_change_nothing() {
 
 #[test]
 fn a_step_fills_the_front_of_its_output() {
-    let cases: [(Result<usize, Refusal>, &[u16]); 3] = [
-        (Ok(3), &[1, 0, 4, 2, 0, 0, 5, 5]),
-        (Ok(3), &[1, 0, 4, 2, 0, 0, 5]),
+    let made = Move {
+        nodes: 3,
+        rule: Rule::Guard,
+        thread: 0,
+    };
+    let cases: [(Result<Move, Refusal>, &[u16]); 3] = [
+        (Ok(made), &[1, 0, 4, 2, 0, 0, 5, 5]),
+        (Ok(made), &[1, 0, 4, 2, 0, 0, 5]),
         (Err(Refusal::NoRoom), &[5; 5]),
     ];
     for (expected, after) in cases {

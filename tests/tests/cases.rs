@@ -2,10 +2,9 @@
 
 mod short;
 
-use mespindro_tests::binding::{self, Reason, Refusal, Standing, Stop};
+use mespindro_tests::binding::{self, Counts, Move, Reason, Refusal, Rule, Standing, Stop};
 use mespindro_tests::calls::on_program;
 use mespindro_tests::compare::{Call, Tally};
-use mespindro_tests::evaluator::step::{step, Rule, Step};
 use mespindro_tests::evaluator::table::write_table;
 use mespindro_tests::evaluator::text::write_text;
 use mespindro_tests::evaluator::tree::{program_size, Program};
@@ -25,6 +24,8 @@ struct Case {
     steps: u32,
     standings: Option<Vec<Standing>>,
     rules: Option<Vec<Rule>>,
+    counts: Option<Counts>,
+    single: Option<Result<Move, Refusal>>,
 }
 
 /// The cases of a file: paragraphs of a name and lines of a word and its content.
@@ -59,6 +60,8 @@ fn case(paragraph: &str) -> Case {
         steps,
         standings: line("stands").map(|s| words(s, standing)),
         rules: line("rules").map(|r| words(r, rule)),
+        counts: line("counts").map(counts),
+        single: line("single").map(single),
     }
 }
 
@@ -90,14 +93,38 @@ fn standing(word: &str) -> Standing {
 }
 
 fn rule(word: &str) -> Rule {
-    match word {
-        "alloc" => Rule::Alloc,
-        "beta" => Rule::Beta,
-        "fresh" => Rule::Fresh,
-        "guard" => Rule::Guard,
-        "unif" => Rule::Unif,
-        "fail" => Rule::Fail,
-        other => panic!("no rule is {other}"),
+    let mut all = Rule::ALL.into_iter();
+    let found = all.find(|rule| rule.name() == word);
+    found.unwrap_or_else(|| panic!("no rule is {word}"))
+}
+
+/// Six numbers in document 01's order.
+fn counts(content: &str) -> Counts {
+    let numbers = words(content, |n| n.parse().expect("a count"));
+    let [alloc, beta, fresh, guard, unif, fail] = numbers[..] else {
+        panic!("six counts are not {content}");
+    };
+    Counts {
+        alloc,
+        beta,
+        fresh,
+        guard,
+        unif,
+        fail,
+    }
+}
+
+/// What a single step answers: nodes, rule and thread, or `refused` and its number.
+fn single(content: &str) -> Result<Move, Refusal> {
+    let number = |word: &str| word.parse().expect("a number");
+    match *content.split(' ').collect::<Vec<_>>() {
+        ["refused", word] => Err(refusal(word)),
+        [nodes, word, thread] => Ok(Move {
+            nodes: number(nodes),
+            rule: rule(word),
+            thread: number(thread),
+        }),
+        _ => panic!("no answer of a step is {content}"),
     }
 }
 
@@ -115,6 +142,15 @@ fn by_library(case: &Case) {
         let got = binding::run(&mut table, count, &mut work, case.limit);
         let stop = got.unwrap_or_else(|refusal| panic!("{name}: {refusal:?}"));
         check_stop(case, &stop, &table);
+        check_counts(case, &stop);
+    }
+    if let Some(rules) = &case.rules {
+        assert_eq!(&rules_told(&case.program, case.steps), rules, "{name}");
+    }
+    if let Some(single) = case.single {
+        let table = write_table(&case.program);
+        let step = binding::step(&table, table.len() / 2, &mut [7; 4096]);
+        assert_eq!(step, single, "{name}");
     }
 }
 
@@ -152,13 +188,38 @@ fn check_stop(case: &Case, stop: &Stop, table: &[u16]) {
     }
 }
 
+fn check_counts(case: &Case, stop: &Stop) {
+    let name = &case.name;
+    assert_eq!(stop.counts.sum(), u64::from(case.steps), "{name}");
+    if let Some(rules) = &case.rules {
+        assert_eq!(stop.counts, evaluator::counts(rules), "{name}");
+    }
+    if let Some(counts) = case.counts {
+        assert_eq!(stop.counts, counts, "{name}");
+    }
+}
+
+/// The rules that the library tells of so many single steps, one after another.
+fn rules_told(program: &Program, steps: u32) -> Vec<Rule> {
+    let (mut table, mut out) = (write_table(program), vec![7; 2 * NODES]);
+    let mut count = table.len() / 2;
+    let mut rules = Vec::new();
+    for _ in 0..steps {
+        let made = binding::step(&table, count, &mut out).expect("the run has made this step");
+        rules.push(made.rule);
+        count = made.nodes;
+        table = out.clone();
+    }
+    rules
+}
+
 /// That the call of one step gives what a run of one step gives.
 fn single_step(name: &str, program: &Program, end: &Program) {
     let (table, end) = (write_table(program), write_table(end));
     for length in [end.len(), end.len() + 1, 4200] {
         let mut out = vec![7; length];
         let step = binding::step(&table, table.len() / 2, &mut out);
-        assert_eq!(step, Ok(end.len() / 2), "{name}");
+        assert_eq!(step.map(|made| made.nodes), Ok(end.len() / 2), "{name}");
         assert_eq!(out[..end.len()], end, "{name}");
     }
 }
@@ -167,34 +228,27 @@ fn single_step(name: &str, program: &Program, end: &Program) {
 fn by_evaluator(case: &Case) {
     let name = &case.name;
     let run = evaluator::run_program(case.program.clone(), case.room, case.limit);
-    let (reason, steps, end) = run.expect("the evaluator can tell");
-    assert_eq!((reason, steps), (case.reason, case.steps), "{name}");
+    let run = run.expect("the evaluator can tell");
+    let stop = run.stop();
+    assert_eq!(
+        (stop.reason, stop.steps),
+        (case.reason, case.steps),
+        "{name}"
+    );
     if let Some(expected) = &case.end {
-        assert_eq!(&end, expected, "{name}");
+        assert_eq!(&run.end, expected, "{name}");
     }
     if let Some(nodes) = case.nodes {
-        assert_eq!(program_size(&end), nodes, "{name}");
+        assert_eq!(stop.nodes, nodes, "{name}");
     }
     if let Some(standings) = &case.standings {
-        let got: Vec<Standing> = end.iter().map(evaluator::step::standing).collect();
+        let got: Vec<Standing> = run.end.iter().map(evaluator::step::standing).collect();
         assert_eq!(&got, standings, "{name}");
     }
     if let Some(rules) = &case.rules {
-        assert_eq!(&rules_taken(&case.program, steps), rules, "{name}");
+        assert_eq!(&run.rules, rules, "{name}");
     }
-}
-
-fn rules_taken(program: &Program, steps: u32) -> Vec<Rule> {
-    let mut program = program.clone();
-    let mut rules = Vec::new();
-    for _ in 0..steps {
-        let Step::To(rule, next) = step(&program) else {
-            panic!("the run has made this step");
-        };
-        rules.push(rule);
-        program = next;
-    }
-    rules
+    check_counts(case, &stop);
 }
 
 fn check_file(name: &str, file: &str, number: usize) {
@@ -219,6 +273,11 @@ fn check_file(name: &str, file: &str, number: usize) {
 #[test]
 fn of_document_01() {
     check_file("document-01.txt", include_str!("cases/document-01.txt"), 16);
+}
+
+#[test]
+fn of_request_2() {
+    check_file("which-rule.txt", include_str!("cases/which-rule.txt"), 21);
 }
 
 #[test]

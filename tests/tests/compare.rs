@@ -1,8 +1,9 @@
 //! The library against the evaluator, call by call, on random inputs of fixed seeds.
 
+use mespindro_tests::binding::Rule;
 use mespindro_tests::calls::{on_program, on_text, random_calls};
 use mespindro_tests::compare::{Call, Tally};
-use mespindro_tests::evaluator::step::{step, Rule, Step};
+use mespindro_tests::evaluator::step::{step, Step};
 use mespindro_tests::evaluator::tree::program_size;
 use mespindro_tests::generate;
 use mespindro_tests::on_big_stack;
@@ -62,7 +63,7 @@ fn random_programs_take_every_rule() {
         for _ in 0..5_000 {
             let mut program = generate::sound_program(&mut random);
             for _ in 0..60 {
-                let Step::To(rule, next) = step(&program) else {
+                let Step::To(rule, _, next) = step(&program) else {
                     break;
                 };
                 *rules.entry(rule).or_default() += 1;

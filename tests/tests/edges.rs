@@ -2,7 +2,7 @@
 
 mod short;
 
-use mespindro_tests::binding::{self, Reason, Refusal, Stop};
+use mespindro_tests::binding::{self, Move, Reason, Refusal, Rule, Stop};
 use mespindro_tests::calls::{on_program, on_text};
 use mespindro_tests::compare::{Call, Tally};
 use mespindro_tests::evaluator::table::write_table;
@@ -10,7 +10,7 @@ use mespindro_tests::evaluator::text::write_text;
 use mespindro_tests::evaluator::tree::{
     application, fresh, guard, program_size, unification, Program, Term,
 };
-use mespindro_tests::evaluator::NODES;
+use mespindro_tests::evaluator::{counts, NODES};
 use mespindro_tests::on_big_stack;
 use mespindro_tests::random::Random;
 
@@ -264,8 +264,8 @@ fn results_at_the_node_limit() {
     let plain = "((l ((a (a c1 b0) b0))))";
     let more = "((l ((n (a (a c1 b1) b1)))))";
     let cases = [
-        (twice(1021, plain), Ok(2047)),
-        (twice(1021, more), Ok(2048)),
+        (twice(1021, plain), made(2047, Rule::Beta)),
+        (twice(1021, more), made(2048, Rule::Beta)),
         (twice(1022, plain), Err(Refusal::TooManyNodes)),
         (twice(1022, more), Err(Refusal::TooManyNodes)),
     ];
@@ -291,8 +291,9 @@ fn context_copied_for_each_alternative() {
         binding::step(&four, 694, &mut []),
         Err(Refusal::TooManyNodes)
     );
-    assert_eq!(binding::step(&three, 692, &mut [0; 4096]), Ok(2047));
-    assert_eq!(run(&with(4)), (stop(Reason::Room, 694, 0), with(4)));
+    let step = binding::step(&three, 692, &mut [0; 4096]);
+    assert_eq!(step, made(2047, Rule::Beta));
+    assert_eq!(run(&with(4)), (stop(Reason::Room, 694, &[]), with(4)));
     compare_programs("context copied (D106)", &[with(4), with(3)]);
 }
 
@@ -347,12 +348,22 @@ fn run(program: &Program) -> (Stop, Program) {
     (stop, end.expect("the end is a program"))
 }
 
-fn stop(reason: Reason, nodes: usize, steps: u32) -> Stop {
+fn stop(reason: Reason, nodes: usize, rules: &[Rule]) -> Stop {
     Stop {
         reason,
         nodes,
-        steps,
+        steps: rules.len() as u32,
+        counts: counts(rules),
     }
+}
+
+/// A step in the first thread.
+fn made(nodes: usize, rule: Rule) -> Result<Move, Refusal> {
+    Ok(Move {
+        nodes,
+        rule,
+        thread: 0,
+    })
 }
 
 #[test]
@@ -367,13 +378,14 @@ fn values_that_no_memory_holds() {
     on_big_stack(|| {
         for (program, nodes) in towers {
             assert_eq!(program_size(&program), nodes);
-            assert_eq!(run(&program), (stop(Reason::Ended, 3, 1), ok.clone()));
+            let ended = stop(Reason::Ended, 3, &[Rule::Unif]);
+            assert_eq!(run(&program), (ended, ok.clone()));
         }
         let kept = vec![application(one_tower(255), Term::Free(255))];
         let table = write_table(&kept);
         let step = binding::step(&table, 2047, &mut [7; 4096]);
         assert_eq!(step, Err(Refusal::TooManyNodes));
-        assert_eq!(run(&kept), (stop(Reason::Room, 2047, 0), kept.clone()));
+        assert_eq!(run(&kept), (stop(Reason::Room, 2047, &[]), kept.clone()));
     });
     println!("D97, D97b, D98: 5 programs");
 }
@@ -386,10 +398,11 @@ fn doubling_values_of_exact_size() {
         let step = binding::step(&nine, 79, &mut vec![7; out]);
         assert_eq!(step, Err(Refusal::TooManyNodes));
     }
-    assert_eq!(run(&kept(9)), (stop(Reason::Room, 79, 0), kept(9)));
+    assert_eq!(run(&kept(9)), (stop(Reason::Room, 79, &[]), kept(9)));
     let eight = write_table(&kept(8));
     let no_room = Err(Refusal::NoRoom);
-    for (out, expected) in [(2048, no_room), (2049, no_room), (2050, Ok(1025))] {
+    let unif = made(1025, Rule::Unif);
+    for (out, expected) in [(2048, no_room), (2049, no_room), (2050, unif)] {
         let step = binding::step(&eight, 71, &mut vec![7; out]);
         assert_eq!(step, expected);
     }

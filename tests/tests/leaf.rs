@@ -53,14 +53,15 @@ fn expected(input: &[u8]) -> Option<(Vec<u8>, String)> {
             return Some((report, format!("refused {}", refusal.number())));
         }
     };
-    let (reason, steps, end) = run_program(program, NODES, 10_000)?;
-    let reason = match reason {
+    let run = run_program(program, NODES, 10_000)?;
+    let reason = match run.reason {
         Reason::Ended => "ended",
         Reason::Steps => "steps",
         Reason::Room => "room",
     };
-    let mut report = format!("({}{}", atom(reason), atom(&steps.to_string())).into_bytes();
-    report.extend(write_text(&end));
+    let steps = run.rules.len().to_string();
+    let mut report = format!("({}{}", atom(reason), atom(&steps)).into_bytes();
+    report.extend(write_text(&run.end));
     report.push(b')');
     Some((report, reason.to_string()))
 }

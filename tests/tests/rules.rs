@@ -61,10 +61,10 @@ fn the_evaluator_agrees() {
         let threads: Vec<notation::Term> = end.threads.into_iter().map(|(_, term)| term).collect();
         let program = evaluator::text::read_text(text.as_bytes()).unwrap();
         let other = on_big_stack(|| evaluator::run_program(program, evaluator::NODES, STEPS));
-        let (reason, steps, other) = other.expect("small enough to copy");
-        assert_eq!((reason, steps), (end.stop.reason, end.stop.steps), "{name}");
-        assert_eq!(other, threads, "{name}");
-        assert_eq!(write_text(&other), notation::text(&threads), "{name}");
+        let other = other.expect("small enough to copy");
+        assert_eq!(other.stop(), end.stop, "{name}");
+        assert_eq!(other.end, threads, "{name}");
+        assert_eq!(write_text(&other.end), notation::text(&threads), "{name}");
     }
 }
 
@@ -73,12 +73,9 @@ fn the_evaluator_agrees() {
 fn canonical_files_run_alike() {
     for name in rule_sets() {
         let text = file(&format!("{name}.csexp"));
-        let first = end_of(&text).lines().next().map(String::from);
-        assert_eq!(
-            first.as_deref(),
-            file(&format!("{name}.end")).lines().next(),
-            "{name}"
-        );
+        let (got, expected) = (end_of(&text), file(&format!("{name}.end")));
+        // the reason and the counts; the threads have names in the one alone
+        assert!(got.lines().take(2).eq(expected.lines().take(2)), "{name}");
     }
 }
 

@@ -124,8 +124,8 @@ fn by_kinds() {
         for _ in 0..5_000 {
             let program = generate::sound_program(&mut random);
             count_standings(&program, &mut told);
-            if let Some((_, _, end)) = evaluator::run_program(program, NODES, 30) {
-                count_standings(&end, &mut told);
+            if let Some(run) = evaluator::run_program(program, NODES, 30) {
+                count_standings(&run.end, &mut told);
             }
         }
     });
