@@ -158,13 +158,17 @@ stepped-once (stepped.Made n q k) (stepped.Refused r) e = absurd (omega (arith, 
 stepped-once (stepped.Refused r) (stepped.Made n q k) e = absurd (omega (arith, number-positive r, same-refusal e))
 stepped-once (stepped.Refused r) (stepped.Refused q) e = ap stepped.Refused (number-injective r q (same-refusal e))
 
--- the counts of six numbers
-abbrev counts-of : List ℕ → Counts
-counts-of l = record { alloc = getD l 0 0; beta = getD l 1 0; fresh = getD l 2 0; guard = getD l 3 0; unif = getD l 4 0; fail = getD l 5 0 }
-
 -- six numbers are those of one struct
 pub six-injective : (c d : Counts) → six c ≡ six d → c ≡ d
-six-injective = told-apart six counts-of (λ c. refl)
+six-injective c d e =
+    let alloc : c .alloc ≡ d .alloc = cc in
+    let beta : c .beta ≡ d .beta = cc in
+    let fresh : c .fresh ≡ d .fresh = cc in
+    let guard : c .guard ≡ d .guard = cc in
+    let unif : c .unif ≡ d .unif = cc in
+    let fail : c .fail ≡ d .fail = cc in
+    let same : _≡_ {A = Counts} (record { alloc = c .alloc; beta = c .beta; fresh = c .fresh; guard = c .guard; unif = c .unif; fail = c .fail }) d = rw (alloc, beta, fresh, guard, unif, fail) in
+    same
 
 -- of a run
 pub ran-once : (x y : Ran) → ranValues x ≡ ranValues y → x ≡ y
