@@ -1,8 +1,8 @@
 -- Request 2 over the calls: the sum of a run's counts, what becomes of them with further alternatives and with further steps, and the thread of one step after another.
-use mathlib.Core.Path.{_≡_, refl, sym, ap, subst, _∙_}
+use mathlib.Core.Path.{_≡_, refl, sym, ap, _∙_}
 use mathlib.Core.List.{List, _++_}
 use mathlib.Core.Option.{some}
-use Prim.Native.Nat.{ℕ, _+_, _-_, _≤_}
+use Prim.Native.Nat.{ℕ, _+_, _-_}
 use native.Mathlib.Omega.{arith}
 use lib.ListN.{length, getD, replicate}
 use Rattle.calculus.specs.declared.Reason.the-variants.{Steps}
@@ -10,22 +10,21 @@ use Rattle.calculus.specs.declared.Rule.{Rule}
 use Rattle.calculus.specs.declared.Rule.the-variants.{Alloc, Beta, Fresh, Guard, Unif, Fail}
 use Rattle.calculus.specs.declared.Counts.{Counts}
 use Rattle.calculus.specs.Tree.{term, program, Tree, preorder, threads, program-of}
-use Rattle.calculus.specs.Step.{Step, step}
+use Rattle.calculus.specs.Step.{step}
 use Rattle.calculus.specs.Run.{End, size, run, room-of}
 use Rattle.calculus.specs.Tally.{count-of, run-counts}
-use Rattle.calculus.specs.Answers.{reasonCode, Values}
+use Rattle.calculus.specs.Answers.{Values}
 use Rattle.calculus.specs.Calls.{TableOf, end-table, ran-values, RunsWith, ran, not-run}
-use Rattle.calculus.proofs.Preorders.{nodes-positive, threads-of-program, program-of-threads, size-append}
+use Rattle.calculus.proofs.Preorders.{threads-of-program, program-of-threads}
 use Rattle.calculus.proofs.Answers.{number-positive, reason-injective}
 use Rattle.calculus.proofs.Outcomes.{table-of-unique}
 use Rattle.calculus.proofs.Steps.{chosen-step}
 use Rattle.calculus.proofs.Tallies.{counts-behind, run-on, counts-add, thread-never-falls}
-use Rattle.promises.specs.Worked.{HasRun, HasStepped}
-use Rattle.promises.specs.Heads.{size-told, Run}
-use Rattle.promises.specs.Rules.{reason-told, steps-told, count-told, SumTold, NoCountFalls, AddsUp, CountsAddUp, nodes-told, thread-told, ThreadNeverFalls}
+use Rattle.promises.specs.Heads.{Run}
+use Rattle.promises.specs.Rules.{reason-told, count-told, SumTold, NoCountFalls, CountsAddUp, nodes-told, ThreadNeverFalls}
 use Rattle.promises.proofs.Refused.{run-length}
 use Rattle.promises.proofs.Worked.{run-gives, step-gives}
-use Rattle.promises.proofs.Heads.{Behind, behind-there, end-is, end-there}
+use Rattle.promises.proofs.Heads.{behind-there, end-is, end-there}
 
 -- the count told for a rule is that rule's
 count-is : (r : Rule) (e : End (List (Tree term))) (c : Counts) → count-told r (ran-values e c) ≡ count-of r c
@@ -41,9 +40,9 @@ pub sum-told : SumTold
 sum-told n a = let h = run-gives (a .runs) (a .accepted) in rw (h .values) (h .summed)
 
 -- what an accepted run of these threads tells and leaves
-pub record RunOf (n : ℕ) (a : Run n) (p : List (Tree term)) : Type 0 where
-  pub told : let room = room-of n (a .table) (a .work) in a .told ≡ ran-values (run room (a .limit) p) (run-counts room (a .limit) p)
-  pub left : a .left ≡ end-table (a .table) (run (room-of n (a .table) (a .work)) (a .limit) p .last)
+record RunOf (n : ℕ) (a : Run n) (p : List (Tree term)) : Type 0 where
+  told : let room = room-of n (a .table) (a .work) in a .told ≡ ran-values (run room (a .limit) p) (run-counts room (a .limit) p)
+  left : a .left ≡ end-table (a .table) (run (room-of n (a .table) (a .work)) (a .limit) p .last)
 
 run-of-these : {n : ℕ} {table : List ℕ} {count : ℕ} {work : List ℕ} {limit : ℕ} {v : Values} {t w : List ℕ} → RunsWith n table count work limit v t w → v .refusal ≡ 0 → (p : List (Tree term)) → TableOf n table count (program-of p) →
     let room = room-of n table work in (v ≡ ran-values (run room limit p) (run-counts room limit p)) × (t ≡ end-table table (run room limit p .last))

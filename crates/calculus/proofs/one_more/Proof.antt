@@ -1,5 +1,4 @@
 -- `calculus::one_more` meets its contract: the rule's own count is one larger, the others stay.
-use mathlib.Core.Path.{ap, _∙_}
 use native.Mathlib.Nat.{add-zero}
 use native.Mathlib.Omega.{arith}
 use borrow.Author.Needs.{needs}
