@@ -30,6 +30,13 @@ STANDS(mespindro_stop, counts, 12);
 STANDS(mespindro_stop, reason, 36);
 STANDS(mespindro_stop, refusal, 38);
 
+_Static_assert(MESPINDRO_RULE_ALLOC == 1, "alloc");
+_Static_assert(MESPINDRO_RULE_BETA == 2, "beta");
+_Static_assert(MESPINDRO_RULE_FRESH == 3, "fresh");
+_Static_assert(MESPINDRO_RULE_GUARD == 4, "guard");
+_Static_assert(MESPINDRO_RULE_UNIF == 5, "unif");
+_Static_assert(MESPINDRO_RULE_FAIL == 6, "fail");
+
 static uint8_t text[MESPINDRO_TEXT + 1];
 static uint16_t table[MESPINDRO_TABLE];
 static uint16_t work[MESPINDRO_TABLE];

@@ -82,6 +82,8 @@ fn prints(mut program: std::process::Command) {
     let file = in_c::folder().join(name);
     std::fs::write(&file, write_text(&six())).unwrap();
     let output = program.arg(&file).output().unwrap();
+    std::fs::remove_file(&file).unwrap();
+    assert!(output.status.success());
     assert_eq!(String::from_utf8_lossy(&output.stdout), PRINTED);
 }
 

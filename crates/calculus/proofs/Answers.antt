@@ -114,14 +114,14 @@ rule-of-code Fail = refl
 pub rule-injective : (r q : Rule) → ruleCode r ≡ ruleCode q → r ≡ q
 rule-injective = told-apart ruleCode rule-of rule-of-code
 
--- the codes begin with 1: 0 stands for a refused call
-pub rule-positive : (r : Rule) → 0 < ruleCode r
-rule-positive Alloc = omega arith
-rule-positive Beta = omega arith
-rule-positive Fresh = omega arith
-rule-positive Guard = omega arith
-rule-positive Unif = omega arith
-rule-positive Fail = omega arith
+-- the codes are 1 to 6: 0 stands for a refused call
+pub rule-range : (r : Rule) → (1 ≤ ruleCode r) × (ruleCode r ≤ 6)
+rule-range Alloc = omega arith
+rule-range Beta = omega arith
+rule-range Fresh = omega arith
+rule-range Guard = omega arith
+rule-range Unif = omega arith
+rule-range Fail = omega arith
 
 -- the standing of a code
 abbrev standing-of : ℕ → Standing

@@ -15,7 +15,6 @@ use Rattle.calculus.specs.Unify.{one, all, shape, takes, carry, meet, so
 use Rattle.calculus.specs.Redex.{plug, own, redexes}
 use Rattle.calculus.specs.Step.{least-from, variable-for, location-for, rewriting, first, step-thread, Step, step, finished}
 use Rattle.calculus.specs.Run.{End, size, run-of, next-program, run}
-use Rattle.calculus.specs.Tally.{next-tally, counted-run, run-counts}
 use Rattle.calculus.specs.Known.{only}
 use Rattle.calculus.specs.Sexp.{list}
 use Rattle.calculus.specs.Text.{raw-empty, encode, raw, raw-text, text}
@@ -71,16 +70,6 @@ every-thread-worked = refl
 pub counts-differ : (whole [] .taken ≡ 0) × (whole guarded .taken ≡ 1)
 unfolding substitute nodes program-of single structure value plug own redexes rewriting first step-thread step run-of next-program run
 counts-differ = (refl, refl)
-
--- nor are the six counts: `((n (g (u b0 c1) b0)))` takes a step each by fresh, unif and guard, and no other
-pub rules-counted : run-counts 2048 10000 (fresh (two guard (two unif (bound 0) (con 1)) (bound 0)) ∷ []) ≡ record { alloc = 0; beta = 0; fresh = 1; guard = 1; unif = 1; fail = 0 }
-unfolding substitute nodes program-of uses put-in single structure value one all shape takes carry meet solve unify plug own redexes least-from variable-for rewriting first step-thread step run-of next-tally counted-run run-counts bind
-rules-counted = refl
-
--- a beta whose body is empty drops its thread, and is no fail: `((a (l ()) c1))`
-pub empty-beta-counted : run-counts 2048 10000 (two app (abs code empty) (con 1) ∷ []) ≡ record { alloc = 1; beta = 1; fresh = 0; guard = 0; unif = 0; fail = 0 }
-unfolding substitute nodes threads program-of stored put-in single structure value plug own redexes least-from location-for rewriting first step-thread step run-of next-tally counted-run run-counts
-empty-beta-counted = refl
 
 -- fresh names are chosen in each thread by itself: `((n b0) x0)` ends in `(x0 x0)`
 pub names-per-thread : whole (fresh (bound 0) ∷ free 0 ∷ []) .last ≡ free 0 ∷ free 0 ∷ []

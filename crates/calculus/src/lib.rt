@@ -2,7 +2,7 @@
 ghost use mathlib.Core.Path.{_≡_};
 ghost use Prim.Native.Nat.{_<_};
 ghost use Rattle.calculus.specs.Answers.{number, reasonCode, ruleCode, standingCode};
-ghost use Rattle.calculus.specs.Tally.{count-of, one-more};
+ghost use Rattle.calculus.specs.Tally.{one-more, sum};
 
 // Document 003 keeps variables, locations and constructors as three disjoint sets: a number of one never stands for a number of another.
 pub struct Var(pub u16);
@@ -144,7 +144,7 @@ pub fn standing_code(x: Standing) -> u16
 
 // One more step by a rule.
 pub fn one_more(counts: Counts, by: Rule) -> Counts
-    requires { ⌜ count-of by counts < 4294967295 ⌝ }
+    requires { ⌜ sum counts < 4294967295 ⌝ }
     ensures { λ r. ⌜ r ≡ one-more counts by ⌝ }
 {
     let mut c = counts;

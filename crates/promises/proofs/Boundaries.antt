@@ -19,7 +19,7 @@ use Rattle.calculus.specs.declared.Rule.the-variants.{Beta, Guard, Fail}
 use Rattle.calculus.specs.declared.Counts.{Counts}
 use Rattle.calculus.specs.Step.{rewriting, first, step-thread, Step, step}
 use Rattle.calculus.specs.Run.{size, holds-nodes, room-of}
-use Rattle.calculus.specs.Tally.{no-counts, uncounted, counted-run}
+use Rattle.calculus.specs.Tally.{no-counts, one-more, uncounted, counted-run}
 use Rattle.calculus.specs.Sexp.{one, digits, decimal, Sexp, atom, list, nothing, more, bytes}
 use Rattle.calculus.specs.Text.{Raw, free-leaf, raw-empty, raw-alt, raw-leaf, encode, raw, raw-text, text}
 use Rattle.calculus.specs.Answers.{number, Values}
@@ -495,24 +495,25 @@ four-step : step four ≡ some (record { rule = Fail; thread = 1; result = three
 unfolding four three substitute single structure value shape carry meet solve unify plug own redexes rewriting first step-thread step bind
 four-step = refl
 
--- the refusal and the count that an answer tells
+-- the refusal that an answer tells
 refusal-of : {v w : Values} → v ≡ w → v .refusal ≡ w .refusal
 refusal-of e = ap (λ (x : Values). x .refusal) e
 
-by-beta : ℕ → Values
-by-beta k = record { refusal = 0; values = k ∷ 2 ∷ 0 ∷ [] }
+-- what a step by beta in the first thread tells
+beta-told : ℕ → Values
+beta-told k = record { refusal = 0; values = k ∷ 2 ∷ 0 ∷ [] }
 
 pub call-boundaries : CallBoundaries
-unfolding ascii preorder nodes threads program-of digits decimal bytes encode raw raw-text text guarded four three step by-beta nodes-before
+unfolding ascii preorder nodes threads program-of digits decimal bytes encode raw raw-text text guarded four three step beta-told nodes-before
 call-boundaries = record {
   write-in = λ rest out v o l h. writes-iff h .1 (record { program = program-of (con 1 ∷ []); table-of = front-table rest one-con; good = one-con; held = omega arith });
   write-out = λ rest out v o l h. write-gives-9 (front-table rest one-con) one-con h (omega arith);
   step-in = λ rest out v o l h. refusal-of (good-steps (front-table rest guarded-good) guarded-good guarded-step (omega arith) (omega arith) h .0);
   step-out = λ rest out v o l h. step-gives-9 (front-table rest guarded-good) guarded-good guarded-step h (omega arith) (omega arith);
-  result-in = λ out v o t l h. good-steps t (twice-good 1018 (omega arith)) (put-step pair 1018) (omega (arith, twice-result 1018)) (omega (arith, twice-result 1018)) h .0 ∙ ap by-beta (twice-result 1018);
+  result-in = λ out v o t l h. good-steps t (twice-good 1018 (omega arith)) (put-step pair 1018) (omega (arith, twice-result 1018)) (omega (arith, twice-result 1018)) h .0 ∙ ap beta-told (twice-result 1018);
   result-out = λ out v o t h. step-gives-7 t (twice-and-one-good 1018 (omega arith)) (put-step pair-and-one 1018) h (omega (arith, twice-and-one-result 1018));
   no-threads = λ rest out v o h. refusal-of (good-stopped (front-table rest (one-good [] (omega arith) tt tt tt)) (one-good [] (omega arith) tt tt tt) refl h .0);
-  thread-told = λ rest out v o l h. good-steps (front-table rest four-good) four-good four-step (omega arith) (omega arith) h .0;
+  rule-and-thread = λ rest out v o l h. good-steps (front-table rest four-good) four-good four-step (omega arith) (omega arith) h .0;
   run-in = λ rest work k v t w l h. refusal-of (good-runs (front-table rest one-con) one-con (omega arith) h .0);
   run-out = λ rest work k v t w l h. run-gives-9 (front-table rest one-con) one-con h (omega arith);
   thread-in = λ {k = k} t g l h. stands-exactly h .accepted (stands-accepted k t g l);
@@ -525,10 +526,10 @@ call-boundaries = record {
 
 -- one step counted, by guard and by beta
 abbrev guard-counted : Counts
-guard-counted = record { alloc = 0; beta = 0; fresh = 0; guard = 1; unif = 0; fail = 0 }
+guard-counted = one-more no-counts Guard
 
 abbrev beta-counted : Counts
-beta-counted = record { alloc = 0; beta = 1; fresh = 0; guard = 0; unif = 0; fail = 0 }
+beta-counted = one-more no-counts Beta
 
 guarded-run : (room k : ℕ) → 3 ≤ room → counted-run room (suc k) (uncounted guarded) ≡ stopped Ended 1 (con 2 ∷ []) guard-counted
 unfolding guarded nodes program-of substitute own redexes first step-thread step

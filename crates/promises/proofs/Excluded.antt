@@ -8,15 +8,16 @@ use native.Mathlib.Omega.{arith}
 use lib.ListN.{take}
 use Rattle.calculus.specs.declared.Reason.{Reason}
 use Rattle.calculus.specs.declared.Reason.the-variants.{Ended}
+use Rattle.calculus.specs.declared.Rule.the-variants.{Guard}
 use Rattle.calculus.specs.declared.Counts.{Counts}
-use Rattle.calculus.specs.Tree.{Sort, term, program, guard, unif, Head, code, at, Tree, empty, alt, bound, free, con, abs, fresh, two, preorder, nodes, threads, program-of, uses}
+use Rattle.calculus.specs.Tree.{Sort, term, program, guard, unif, Head, code, at, Tree, empty, alt, bound, free, con, abs, fresh, two, preorder, nodes, program-of, uses}
 use Rattle.calculus.specs.Put.{put-in, substitute}
 use Rattle.calculus.specs.Value.{single, structure, value}
 use Rattle.calculus.specs.Unify.{one, all, shape, takes, carry, meet, solve, unify}
 use Rattle.calculus.specs.Redex.{plug, own, redexes}
 use Rattle.calculus.specs.Step.{least-from, variable-for, rewriting, first, step-thread, Step, step}
-use Rattle.calculus.specs.Run.{End, size, run, holds-nodes, room-of}
-use Rattle.calculus.specs.Tally.{no-counts, one-more, Tally, uncounted, counted-run, run-counts}
+use Rattle.calculus.specs.Run.{End, size, holds-nodes, room-of}
+use Rattle.calculus.specs.Tally.{no-counts, one-more, Tally, uncounted, counted-run}
 use Rattle.calculus.specs.Text.{text}
 use Rattle.calculus.specs.Good.{InRange, Closed, Holds, Coherent, All, Good}
 use Rattle.calculus.specs.Answers.{Values}
@@ -24,8 +25,7 @@ use Rattle.calculus.specs.Calls.{front, TextOf, Reads, TableOf, end-table, ran-
 use Rattle.calculus.proofs.Alls.{all-each}
 use Rattle.calculus.proofs.Preorders.{threads-of-program}
 use Rattle.calculus.proofs.Texts.{text-injective}
-use Rattle.calculus.proofs.Machines.{seen}
-use Rattle.calculus.proofs.Tallies.{counted-ended, counted-goes, counted-forgets}
+use Rattle.calculus.proofs.Tallies.{counted-ended, counted-goes, counted-tells}
 use Rattle.calculus.proofs.Exclusions.{step-accepts, reader-accepts}
 use Rattle.promises.specs.Rules.{steps-told}
 use Rattle.promises.proofs.Refused.{reads-exactly}
@@ -133,12 +133,7 @@ stopped r k ts c = record { reason = r; taken = k; last = record { state = ts; c
 pub runs-to : {n : ℕ} {table : List ℕ} {count : ℕ} {work : List ℕ} {limit : ℕ} {v : Values} {t w : List ℕ} {r : Reason} {k : ℕ} {q : List (Tree term)} {c : Counts} (ts : List (Tree term)) →
     TableOf n table count (program-of ts) → Good n (program-of ts) → count ≤ holds-nodes work → counted-run (room-of n table work) limit (uncounted ts) ≡ stopped r k q c → RunsWith n table count work limit v t w →
     (v ≡ ran-values (record { reason = r; taken = k; last = q }) c) × (t ≡ end-table table q)
-unfolding run-counts
-runs-to {n} {table} {work = work} {limit} {r = r} {k} {q} {c} ts h g l i z =
-    let room = room-of n table work in
-    let j : run room limit ts ≡ record { reason = r; taken = k; last = q } = counted-forgets room limit (uncounted ts) ∙ ap (seen (λ (u : Tally (List (Tree term))). u .state)) i in
-    let d : run-counts room limit ts ≡ c = ap (λ (e : End (Tally (List (Tree term)))). e .last .counts) i in
-    rw (threads-of-program ts, j, d) at (good-runs h g l z)
+runs-to {n} {table} {work = work} {limit} ts h g l i z = let (j, d) = counted-tells (room-of n table work) limit ts i in rw (threads-of-program ts, j, d) at (good-runs h g l z)
 
 -- A reader may not always refuse: the text `()` is read under every limit, whatever the output holds.
 pub reader-must-read : {n : ℕ} {out : List ℕ} {v : Values} {o : List ℕ} → Reads n (text empty) out v o → 1 ≤ n → 1 ≤ holds-nodes out → v .refusal ≡ 0
@@ -228,7 +223,7 @@ count-must-be-right {n} {table} {table′} {work = work} {work′} {k} {k′} h 
     let j = k′ - 1 in
     let e : k′ ≡ suc j = omega arith in
     let room = room-of n table′ work′ in
-    let c : Counts = record { alloc = 0; beta = 0; fresh = 0; guard = 1; unif = 0; fail = 0 } in
+    let c : Counts = one-more no-counts Guard in
     let i : counted-run room k′ (uncounted ts) ≡ stopped Ended 1 d c = rw e (goes-on room j (uncounted ts) refl (omega (arith, h′ .counts, h′ .small, h′ .within)) (counted-ended (record { state = d; counts = c }) room j refl)) in (
       ap steps-told (runs-to [] h (held-good [] h tt tt) l (counted-ended (uncounted []) (room-of n table work) k refl) r .0),
       ap steps-told (runs-to ts h′ (held-good ts h′ (omega arith) (tt, tt)) l′ i r′ .0),

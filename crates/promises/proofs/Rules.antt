@@ -13,15 +13,15 @@ use Rattle.calculus.specs.Tree.{term, program, Tree, preorder, threads, program
 use Rattle.calculus.specs.Step.{step}
 use Rattle.calculus.specs.Run.{End, size, run, room-of}
 use Rattle.calculus.specs.Tally.{count-of, run-counts}
-use Rattle.calculus.specs.Answers.{Values}
+use Rattle.calculus.specs.Answers.{reasonCode, Values}
 use Rattle.calculus.specs.Calls.{TableOf, end-table, ran-values, RunsWith, ran, not-run}
 use Rattle.calculus.proofs.Preorders.{threads-of-program, program-of-threads}
-use Rattle.calculus.proofs.Answers.{number-positive, reason-injective}
+use Rattle.calculus.proofs.Answers.{number-positive, reason-injective, rule-range}
 use Rattle.calculus.proofs.Outcomes.{table-of-unique}
 use Rattle.calculus.proofs.Steps.{chosen-step}
 use Rattle.calculus.proofs.Tallies.{counts-behind, run-on, counts-add, thread-never-falls}
-use Rattle.promises.specs.Heads.{Run}
-use Rattle.promises.specs.Rules.{reason-told, count-told, SumTold, NoCountFalls, CountsAddUp, nodes-told, ThreadNeverFalls}
+use Rattle.promises.specs.Heads.{size-told, Run}
+use Rattle.promises.specs.Rules.{reason-told, count-told, SumTold, NoCountFalls, CountsAddUp, nodes-told, RuleTold, ThreadNeverFalls}
 use Rattle.promises.proofs.Refused.{run-length}
 use Rattle.promises.proofs.Worked.{run-gives, step-gives}
 use Rattle.promises.proofs.Heads.{behind-there, end-is, end-there}
@@ -76,12 +76,17 @@ counts-add-up n a b whole g =
     let second = run-these b E next in
     let all : TableOf n (whole .table) (whole .count) (program-of p) = rw (g .whole-table, g .whole-count) there in
     let third = run-these whole p all in
-    let stopped : run room (a .limit) p .reason ≡ Steps = reason-injective (run room (a .limit) p .reason) Steps (sym (ap reason-told (first .told)) ∙ g .stopped) in
+    let stopped : run room (a .limit) p .reason ≡ Steps = reason-injective (run room (a .limit) p .reason) Steps (sym (ap reason-told (first .told)) ∙ g .by-steps) in
     let add : (r : Rule) → count-told r (whole .told) ≡ count-told r (a .told) + count-told r (b .told) =
     λ r. let x = rw (g .whole-room, g .whole-steps) at (counts-told third r) in let y = rw (g .room) at (counts-told second r) in omega (arith, x, y, counts-told first r, counts-add room (a .limit) (b .limit) p stopped r) in
     let long : length (whole .table) ≡ length (b .table) = ap length (g .whole-table) ∙ sym (run-length (a .runs) .0) ∙ sym (ap length (g .table)) in
-    let last : run room (a .limit + b .limit) p .last ≡ run room (b .limit) E .last = ap (λ (e : End (List (Tree term))). e .last) (run-on room (a .limit) (b .limit) p stopped) in
+    let one = run-on room (a .limit) (b .limit) p stopped in
+    let last : run room (a .limit + b .limit) p .last ≡ run room (b .limit) E .last = ap (λ (e : End (List (Tree term))). e .last) one in
+    let told = rw (g .whole-room, g .whole-steps) at (third .told) in
+    let told-on = rw (g .room) at (second .told) in
     record {
+      reason = ap reason-told told ∙ ap (λ (e : End (List (Tree term))). reasonCode (e .reason)) one ∙ sym (ap reason-told told-on);
+      nodes = ap size-told told ∙ ap size last ∙ sym (ap size-told told-on);
       counts = add;
       steps = omega (arith, sum-told n a, sum-told n b, sum-told n whole, add Alloc, add Beta, add Fresh, add Guard, add Unif, add Fail);
       left = (rw (g .whole-room, g .whole-steps, last) at (third .left)) ∙ same-end (whole .table) (b .table) (run room (b .limit) E .last) long ∙ sym (rw (g .room) at (second .left));
@@ -90,6 +95,10 @@ counts-add-up n a b whole g =
     -- an end is left alike in tables of one length
     same-end : (s t : List ℕ) (q : List (Tree term)) → length s ≡ length t → end-table s q ≡ end-table t q
     same-end s t q e = ap (λ (m : ℕ). preorder (program-of q) ++ replicate (m - length (preorder (program-of q))) 0) e
+
+-- an accepted step tells a rule
+pub single-tells-rule : RuleTold
+single-tells-rule n a = let h = step-gives (a .steps) (a .accepted) in rw (h .values) (rule-range (h .step .rule))
 
 -- from one single step to the next the thread told never falls
 pub single-never-falls : ThreadNeverFalls

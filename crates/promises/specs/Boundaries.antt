@@ -137,7 +137,7 @@ pub record CallBoundaries : Type 0 where
   -- 11: "a single step is asked for and every thread is finished"; the empty program has none
   pub no-threads : (rest out : List ℕ) (v : Values) (o : List ℕ) → StepsInto limit (0 ∷ 0 ∷ rest) 1 out v o → v .refusal ≡ 11
   -- "which of the six rules it used and in which thread": `(c1 (u c1 c2) (n b0) (l ()))` has one finished thread before the first open one, which the step drops by fail
-  pub thread-told : (rest out : List ℕ) (v : Values) (o : List ℕ) → 18 ≤ length out →
+  pub rule-and-thread : (rest out : List ℕ) (v : Values) (o : List ℕ) → 18 ≤ length out →
       StepsInto limit (1 ∷ 0 ∷ 4 ∷ 1 ∷ 1 ∷ 0 ∷ 10 ∷ 0 ∷ 4 ∷ 1 ∷ 4 ∷ 2 ∷ 1 ∷ 0 ∷ 8 ∷ 0 ∷ 2 ∷ 0 ∷ 1 ∷ 0 ∷ 5 ∷ 0 ∷ 0 ∷ 0 ∷ 0 ∷ 0 ∷ rest) 13 out v o → v ≡ record { refusal = 0; values = 9 ∷ 6 ∷ 1 ∷ [] }
   -- 9 of a run: "the program doesn't fit the work table"
   pub run-in : (rest work : List ℕ) (steps : ℕ) (v : Values) (t w : List ℕ) → length work ≡ 6 → RunsWith limit (1 ∷ 0 ∷ 4 ∷ 1 ∷ 0 ∷ 0 ∷ rest) 3 work steps v t w → v .refusal ≡ 0

@@ -30,7 +30,7 @@ NoCountFalls = (n : ℕ) (a b : Run n) → Further n a b → (r : Rule) → coun
 
 -- The run a stopped by steps, b goes on with what it left, in the same room; `whole` is the one run of as many steps, in the same room.
 pub record GoneOn (n : ℕ) (a b whole : Run n) : Type 0 where
-  pub stopped : reason-told (a .told) ≡ 2
+  pub by-steps : reason-told (a .told) ≡ 2
   pub table : b .table ≡ a .left
   pub count : b .count ≡ size-told (a .told)
   pub room : room-of n (b .table) (b .work) ≡ room-of n (a .table) (a .work)
@@ -39,8 +39,10 @@ pub record GoneOn (n : ℕ) (a b whole : Run n) : Type 0 where
   pub whole-room : room-of n (whole .table) (whole .work) ≡ room-of n (a .table) (a .work)
   pub whole-steps : whole .limit ≡ a .limit + b .limit
 
--- then the counts of a and b add up to those of the one run, and b leaves what that one leaves
+-- then the counts of a and b add up to those of the one run, and b stops as that one stops and leaves what it leaves
 pub record AddsUp (n : ℕ) (a b whole : Run n) : Type 0 where
+  pub reason : reason-told (whole .told) ≡ reason-told (b .told)
+  pub nodes : size-told (whole .told) ≡ size-told (b .told)
   pub counts : (r : Rule) → count-told r (whole .told) ≡ count-told r (a .told) + count-told r (b .told)
   pub steps : steps-told (whole .told) ≡ steps-told (a .told) + steps-told (b .told)
   pub left : whole .left ≡ b .left
@@ -58,12 +60,19 @@ pub record Single (n : ℕ) : Type 0 where
   pub steps : StepsInto n table count out told left
   pub accepted : told .refusal ≡ 0
 
--- the nodes and the thread that it tells, the first and the third of its values
+-- the nodes, the rule and the thread that it tells
 abbrev pub nodes-told : Values → ℕ
 nodes-told v = getD (v .values) 0 0
 
+abbrev pub rule-told : Values → ℕ
+rule-told v = getD (v .values) 1 0
+
 abbrev pub thread-told : Values → ℕ
 thread-told v = getD (v .values) 2 0
+
+-- an accepted step tells a rule, 1 to 6: with 0 the call was refused
+abbrev pub RuleTold : Type 0
+RuleTold = (n : ℕ) (a : Single n) → (1 ≤ rule-told (a .told)) × (rule-told (a .told) ≤ 6)
 
 -- from one single step to the next the thread told never falls
 abbrev pub ThreadNeverFalls : Type 0

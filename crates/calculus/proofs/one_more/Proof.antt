@@ -9,37 +9,37 @@ enum-told : tie.Need-enum-told
 enum-told c = search needs
 
 add-c : tie.Need-add-c
-add-c c = omega (arith, rw (c .before .enum-told .given .1) at (c .before .before .before .pre))
+add-c c = omega (arith, c .before .before .before .pre)
 
 enum-told-2 : tie.Need-enum-told-2
 enum-told-2 c = search needs
 
 add-c-2 : tie.Need-add-c-2
-add-c-2 c = omega (arith, rw (c .before .enum-told2 .given .1) at (c .before .before .before .pre))
+add-c-2 c = omega (arith, c .before .before .before .pre)
 
 enum-told-3 : tie.Need-enum-told-3
 enum-told-3 c = search needs
 
 add-c-3 : tie.Need-add-c-3
-add-c-3 c = omega (arith, rw (c .before .enum-told3 .given .1) at (c .before .before .before .pre))
+add-c-3 c = omega (arith, c .before .before .before .pre)
 
 enum-told-4 : tie.Need-enum-told-4
 enum-told-4 c = search needs
 
 add-c-4 : tie.Need-add-c-4
-add-c-4 c = omega (arith, rw (c .before .enum-told4 .given .1) at (c .before .before .before .pre))
+add-c-4 c = omega (arith, c .before .before .before .pre)
 
 enum-told-5 : tie.Need-enum-told-5
 enum-told-5 c = search needs
 
 add-c-5 : tie.Need-add-c-5
-add-c-5 c = omega (arith, rw (c .before .enum-told5 .given .1) at (c .before .before .before .pre))
+add-c-5 c = omega (arith, c .before .before .before .pre)
 
 enum-told-6 : tie.Need-enum-told-6
 enum-told-6 c = search needs
 
 add-c-6 : tie.Need-add-c-6
-add-c-6 c = omega (arith, rw (c .before .enum-told6 .given .1) at (c .before .before .before .pre))
+add-c-6 c = omega (arith, c .before .before .before .pre)
 
 returns : tie.Need-returns
 returns c = rw (c .before .enum-told .given .1) (simp add-zero)
