@@ -13,17 +13,17 @@ use Rattle.calculus.specs.Tree.{term, program, Tree, preorder, threads, program
 use Rattle.calculus.specs.Step.{step}
 use Rattle.calculus.specs.Run.{End, size, run, room-of}
 use Rattle.calculus.specs.Tally.{count-of, run-counts}
-use Rattle.calculus.specs.Answers.{reasonCode, Values}
-use Rattle.calculus.specs.Calls.{TableOf, end-table, ran-values, RunsWith, ran, not-run}
+use Rattle.calculus.specs.Answers.{reasonCode}
+use Rattle.calculus.specs.Calls.{TableOf, end-table, ran-values}
 use Rattle.calculus.proofs.Preorders.{threads-of-program, program-of-threads}
-use Rattle.calculus.proofs.Answers.{number-positive, reason-injective, rule-range}
+use Rattle.calculus.proofs.Answers.{reason-injective, rule-range}
 use Rattle.calculus.proofs.Outcomes.{table-of-unique}
 use Rattle.calculus.proofs.Steps.{chosen-step}
 use Rattle.calculus.proofs.Tallies.{counts-behind, run-on, counts-add, thread-never-falls}
 use Rattle.promises.specs.Heads.{size-told, Run}
 use Rattle.promises.specs.Rules.{reason-told, count-told, SumTold, NoCountFalls, CountsAddUp, nodes-told, RuleTold, ThreadNeverFalls}
-use Rattle.promises.proofs.Refused.{run-length}
-use Rattle.promises.proofs.Worked.{run-gives, step-gives}
+use Rattle.promises.proofs.Refused.{runs-exactly, run-length}
+use Rattle.promises.proofs.Worked.{run-gives, step-gives, runs-as}
 use Rattle.promises.proofs.Heads.{behind-there, end-is, end-there}
 
 -- the count told for a rule is that rule's
@@ -44,13 +44,8 @@ record RunOf (n : ℕ) (a : Run n) (p : List (Tree term)) : Type 0 where
   told : let room = room-of n (a .table) (a .work) in a .told ≡ ran-values (run room (a .limit) p) (run-counts room (a .limit) p)
   left : a .left ≡ end-table (a .table) (run (room-of n (a .table) (a .work)) (a .limit) p .last)
 
-run-of-these : {n : ℕ} {table : List ℕ} {count : ℕ} {work : List ℕ} {limit : ℕ} {v : Values} {t w : List ℕ} → RunsWith n table count work limit v t w → v .refusal ≡ 0 → (p : List (Tree term)) → TableOf n table count (program-of p) →
-    let room = room-of n table work in (v ≡ ran-values (run room limit p) (run-counts room limit p)) × (t ≡ end-table table (run room limit p .last))
-run-of-these (ran q a t) z p f = let e : threads q ≡ p = ap threads (table-of-unique t f) ∙ threads-of-program p in rw e (refl, refl)
-run-of-these (not-run r g) z p f = absurd (omega (arith, number-positive r))
-
 run-these : {n : ℕ} (a : Run n) (p : List (Tree term)) → TableOf n (a .table) (a .count) (program-of p) → RunOf n a p
-run-these a p f = let e = run-of-these (a .runs) (a .accepted) p f in record { told = e .0; left = e .1 }
+run-these a p f = let e = rw (threads-of-program p) at (runs-as (runs-exactly (a .runs) .accepted-only (a .accepted)) f (a .runs)) in record { told = e .0; left = e .1 }
 
 counts-told : {n : ℕ} {a : Run n} {p : List (Tree term)} → RunOf n a p → (r : Rule) → count-told r (a .told) ≡ count-of r (run-counts (room-of n (a .table) (a .work)) (a .limit) p)
 counts-told {n} {a} {p} h r =

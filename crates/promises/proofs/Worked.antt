@@ -25,7 +25,7 @@ use Rattle.calculus.specs.Run.{End, size, run, holds-nodes, room-of}
 use Rattle.calculus.specs.Tally.{run-counts}
 use Rattle.calculus.specs.Text.{text}
 use Rattle.calculus.specs.Answers.{number, ruleCode, standingCode, Values, refused-step}
-use Rattle.calculus.specs.Calls.{Refuses, front, Reads, read, refused, TableOf, Writes, written, not-written, StepsTo, step-refusals, StepsInto, stepped, not-stepped, end-table, ran-values, RunsWith, ran, not-run, Accepts, thread-refusals, ThreadOf, StandsAt, stands, not-stood}
+use Rattle.calculus.specs.Calls.{Refuses, front, Reads, read, refused, TableOf, Writes, written, not-written, StepsTo, step-refusals, StepsInto, stepped, not-stepped, end-table, ran-values, RunsWith, ran, not-run, Accepts, run-refusals, thread-refusals, ThreadOf, StandsAt, stands, not-stood}
 use Rattle.calculus.proofs.Substitutes.{impossible}
 use Rattle.calculus.proofs.Answers.{number-positive, standing-injective}
 use Rattle.calculus.proofs.Alls.{all-threads, all-both, all-at}
@@ -262,13 +262,15 @@ module _ {n : ℕ} {table : List ℕ} {count : ℕ} where
   pub told-finished : {k : ℕ} (t : Tree term) → Accepts (thread-refusals n table count k) → ThreadOf n table count k t → (standingCode (standing t) ∷ [] ≡ 3 ∷ [] → ⊥) → (standingCode (standing t) ∷ [] ≡ 1 ∷ []) ↔ (Holding t → ⊥)
   told-finished t a o f = let (good, closed, coherent) = thread-good a o in Iff·trans (code-told (standing t) Answer) (answer-exactly t closed coherent (λ e. f (code-told (standing t) Open .1 e)))
 
+  -- a run that nothing refuses tells and leaves what the run of the program in the table does
+  pub runs-as : {work : List ℕ} {limit : ℕ} {v : Values} {t w : List ℕ} {p : Tree program} → Accepts (run-refusals n table count work) → TableOf n table count p → RunsWith n table count work limit v t w →
+      (v ≡ ran-values (run (room-of n table work) limit (threads p)) (run-counts (room-of n table work) limit (threads p))) × (t ≡ end-table table (run (room-of n table work) limit (threads p) .last))
+  runs-as {p = p} a k h = let e = runs-once h (ran p a k) in (e .0, e .1)
+
   -- a good program in a table is run with a work table that holds it, whatever the step limit
   pub good-runs : {work : List ℕ} {limit : ℕ} {v : Values} {t w : List ℕ} {p : Tree program} → TableOf n table count p → Good n p → count ≤ holds-nodes work → RunsWith n table count work limit v t w →
       (v ≡ ran-values (run (room-of n table work) limit (threads p)) (run-counts (room-of n table work) limit (threads p))) × (t ≡ end-table table (run (room-of n table work) limit (threads p) .last))
-  good-runs {p = p} k g r h =
-      let a = good-table k g in
-      let e = runs-once h (ran p (a .0, (a .1 .0, (a .1 .1 .0, ((λ l. omega arith), tt)))) k) in
-      (e .0, e .1)
+  good-runs k g r h = let a = good-table k g in runs-as (a .0, (a .1 .0, (a .1 .1 .0, ((λ l. omega arith), tt)))) k h
 
   -- a good program is always written into an output of the longest text
   pub good-writes : {out : List ℕ} {v : Values} {o : List ℕ} {p : Tree program} → TableOf n table count p → Good n p → n ≤ 65536 → 12 * n ≤ length out → Writes n table count out v o → (v ≡ accepted (length (text p))) × (o ≡ front (text p) out)
