@@ -1,0 +1,393 @@
+//! The benchmark: the library against the independent evaluator and against the floor of copying the table once a step.
+//!
+//! `bench FOLDER` writes FOLDER/SPEED.md's table between its two marks and FOLDER/speed.svg; without a folder it prints the table. Both sides
+//! are release builds in one process on the same inputs; before each call the table is filled anew and the work table cleared, outside the
+//! time. Each time is the least of several rounds. tools/bench builds and runs it.
+
+mod inputs;
+
+use inputs::{cases, long_structure, placements, plain_structure, Case};
+use mespindro::Standing;
+use mespindro_tests::evaluator::table::read_table;
+use mespindro_tests::evaluator::{self, NODES, TEXT};
+use mespindro_tests::on_big_stack;
+use std::fmt::Write;
+use std::hint::black_box;
+use std::path::Path;
+use std::process::Command;
+use std::time::{Duration, Instant};
+
+/// What is found of one case: times of the whole call.
+struct Row {
+    name: String,
+    nodes: usize,
+    steps: u32,
+    library: Duration,
+    evaluator: Option<Duration>,
+    floor: Duration,
+}
+
+impl Row {
+    /// How many times the library is faster than the evaluator.
+    fn faster(&self) -> Option<f64> {
+        self.evaluator.map(|e| ratio(e, self.library))
+    }
+}
+
+fn main() {
+    let folder = std::env::args().nth(1);
+    let rows = on_big_stack(measure_all);
+    let prolog = prolog_times();
+    let text = report(&rows, &prolog);
+    match folder {
+        None => print!("{text}"),
+        Some(folder) => store(Path::new(&folder), &text, &chart(&rows)),
+    }
+}
+
+fn measure_all() -> Vec<Row> {
+    let mut rows: Vec<Row> = cases().iter().map(measure).collect();
+    rows.push(reading());
+    rows.push(writing());
+    rows.push(standing());
+    rows.push(reading_out());
+    rows
+}
+
+// ---- The times.
+
+/// The least time of a call, over rounds for about a second: other work of the machine makes single ones longer.
+fn least(mut prepare: impl FnMut(), mut call: impl FnMut(&mut dyn FnMut())) -> Duration {
+    let begin = Instant::now();
+    let mut best = Duration::MAX;
+    let mut rounds = 0;
+    while rounds < 5 || begin.elapsed() < Duration::from_secs(1) {
+        prepare();
+        let mut took = Duration::ZERO;
+        let start = Instant::now();
+        call(&mut || took = start.elapsed());
+        best = best.min(took);
+        rounds += 1;
+    }
+    best
+}
+
+fn measure(case: &Case) -> Row {
+    let nodes = case.table.len() / 2;
+    let (library, steps) = library_run(case);
+    let evaluator = (!case.alone).then(|| evaluator_run(case));
+    Row {
+        name: case.name.to_string(),
+        nodes,
+        steps,
+        library,
+        evaluator,
+        floor: copy_floor(nodes) * steps.max(1),
+    }
+}
+
+fn library_run(case: &Case) -> (Duration, u32) {
+    let table = std::cell::RefCell::new(vec![0u16; 2 * NODES]);
+    let work = std::cell::RefCell::new(vec![0u16; 2 * NODES]);
+    let mut steps = 0;
+    let count = case.table.len() / 2;
+    let time = least(
+        || {
+            let mut table = table.borrow_mut();
+            table.fill(0);
+            table[..case.table.len()].copy_from_slice(&case.table);
+            work.borrow_mut().fill(0);
+        },
+        |done| {
+            let stop = mespindro::run(
+                &mut table.borrow_mut(),
+                count,
+                &mut work.borrow_mut(),
+                case.most,
+            );
+            done();
+            steps = stop.expect("the case runs").steps;
+        },
+    );
+    (time, steps)
+}
+
+/// The evaluator's whole call: it reads the table into a tree, runs it and writes the end's table.
+fn evaluator_run(case: &Case) -> Duration {
+    let mut table = vec![0u16; 2 * NODES];
+    table[..case.table.len()].copy_from_slice(&case.table);
+    let count = case.table.len() / 2;
+    least(
+        || {},
+        |done| {
+            let end = evaluator::run(&table, count, 2 * NODES, case.most);
+            done();
+            black_box(end.expect("small enough to copy").expect("the case runs"));
+        },
+    )
+}
+
+/// Copying so many nodes once: the least of many rounds of 1,000 copies.
+fn copy_floor(nodes: usize) -> Duration {
+    let from = vec![1u16; 2 * nodes];
+    let mut to = vec![0u16; 2 * nodes];
+    let thousand = least(
+        || {},
+        |done| {
+            for _ in 0..1000 {
+                to.copy_from_slice(black_box(&from));
+                black_box(&mut to);
+            }
+            done();
+        },
+    );
+    thousand / 1000
+}
+
+fn long_program() -> (Vec<u8>, Vec<u16>) {
+    let table = long_structure();
+    let text =
+        evaluator::text::write_text(&read_table(&table, table.len() / 2).expect("a program"));
+    (text, table)
+}
+
+fn reading() -> Row {
+    let (text, table) = long_program();
+    let mut out = vec![0u16; 2 * NODES];
+    let library = least(
+        || {},
+        |done| {
+            let read = mespindro::read(&text, &mut out);
+            done();
+            read.expect("the text is read");
+        },
+    );
+    let evaluator = least(
+        || {},
+        |done| {
+            let read = evaluator::read(&text, 2 * NODES);
+            done();
+            black_box(read.expect("the text is read"));
+        },
+    );
+    row("reading a text", &text, &table, library, evaluator)
+}
+
+fn writing() -> Row {
+    let (text, table) = long_program();
+    let mut out = vec![0u8; TEXT];
+    let library = least(
+        || {},
+        |done| {
+            let written = mespindro::write(&table, table.len() / 2, &mut out);
+            done();
+            written.expect("the table is written");
+        },
+    );
+    let evaluator = least(
+        || {},
+        |done| {
+            let written = evaluator::write(&table, table.len() / 2, TEXT);
+            done();
+            black_box(written.expect("the table is written"));
+        },
+    );
+    row("writing a text", &text, &table, library, evaluator)
+}
+
+/// How one long thread stands.
+fn standing() -> Row {
+    let table = plain_structure();
+    let count = table.len() / 2;
+    let library = least(
+        || {},
+        |done| {
+            let told = mespindro::standing(&table, count, 0);
+            done();
+            assert_eq!(told, Ok(Standing::Answer));
+        },
+    );
+    let evaluator = least(
+        || {},
+        |done| {
+            let told = evaluator::standing(&table, count, 0);
+            done();
+            assert_eq!(told, Ok(Standing::Answer));
+        },
+    );
+    Row {
+        name: "the standing of a structure of 1,999 nodes".to_string(),
+        nodes: count,
+        steps: 0,
+        library,
+        evaluator: Some(evaluator),
+        floor: copy_floor(count),
+    }
+}
+
+/// Every thread's standing and part, each by its own call; against copying the table once.
+fn reading_out() -> Row {
+    let table = placements(255);
+    let count = table.len() / 2;
+    let library = least(
+        || {},
+        |done| {
+            for k in 0..255 {
+                black_box(mespindro::standing(&table, count, k).expect("a thread"));
+                black_box(mespindro::thread(&table, count, k));
+            }
+            done();
+        },
+    );
+    let evaluator = least(
+        || {},
+        |done| {
+            for k in 0..255 {
+                black_box(evaluator::standing(&table, count, k).expect("a thread"));
+                black_box(evaluator::thread(&table, count, k).expect("a thread"));
+            }
+            done();
+        },
+    );
+    Row {
+        name: "255 placements, each by standing and thread".to_string(),
+        nodes: count,
+        steps: 0,
+        library,
+        evaluator: Some(evaluator),
+        floor: copy_floor(count),
+    }
+}
+
+fn row(what: &str, text: &[u8], table: &[u16], library: Duration, evaluator: Duration) -> Row {
+    Row {
+        name: format!("{what} of {} bytes", thousands(text.len())),
+        nodes: table.len() / 2,
+        steps: 0,
+        library,
+        evaluator: Some(evaluator),
+        floor: copy_floor(table.len() / 2),
+    }
+}
+
+/// SWI-Prolog's time for the two structures, in microseconds; none where it is not installed.
+fn prolog_times() -> Option<(f64, f64)> {
+    let file = Path::new(env!("CARGO_MANIFEST_DIR")).join("bench/unify.pl");
+    let output = Command::new("swipl")
+        .args(["-q", "-g", "main", "-t", "halt"])
+        .arg(file)
+        .output()
+        .ok()?;
+    let text = String::from_utf8(output.stdout).ok()?;
+    let mut numbers = text.split_whitespace().map(|n| n.parse::<f64>());
+    Some((numbers.next()?.ok()?, numbers.next()?.ok()?))
+}
+
+// ---- The report.
+
+fn thousands(n: usize) -> String {
+    if n < 1000 {
+        n.to_string()
+    } else {
+        format!("{},{:03}", n / 1000, n % 1000)
+    }
+}
+
+fn time(d: Duration) -> String {
+    let us = d.as_secs_f64() * 1e6;
+    if us < 1000.0 {
+        format!("{us:.1} µs")
+    } else {
+        format!("{:.2} ms", us / 1000.0)
+    }
+}
+
+fn ratio(a: Duration, b: Duration) -> f64 {
+    a.as_secs_f64() / b.as_secs_f64()
+}
+
+fn report(rows: &[Row], prolog: &Option<(f64, f64)>) -> String {
+    let mut out = String::new();
+    let machine = std::env::consts::ARCH;
+    writeln!(out, "Measured on {machine}, one run of `tools/bench`.\n").unwrap();
+    writeln!(
+        out,
+        "| input | nodes | steps | library | evaluator | times faster | against copying |"
+    )
+    .unwrap();
+    writeln!(out, "|---|---|---|---|---|---|---|").unwrap();
+    for row in rows {
+        writeln!(
+            out,
+            "| {} | {} | {} | {} | {} | {} | {:.0} |",
+            row.name,
+            thousands(row.nodes),
+            thousands(row.steps as usize),
+            time(row.library),
+            row.evaluator.map_or("-".to_string(), time),
+            row.faster()
+                .map_or("-".to_string(), |faster| format!("{faster:.1}")),
+            ratio(row.library, row.floor),
+        )
+        .unwrap();
+    }
+    let own = |row: &Row, idle: &Row| time(row.library.saturating_sub(idle.library));
+    writeln!(
+        out,
+        "\nA unification's own time, beyond a call on as many nodes of the same kinds that has nothing to do: equal structures {}, against variables {}.",
+        own(&rows[2], &rows[0]),
+        own(&rows[3], &rows[1])
+    )
+    .unwrap();
+    if let Some((equal, variables)) = prolog {
+        writeln!(
+            out,
+            "SWI-Prolog's `unify_with_occurs_check` on the same: {equal:.1} µs, {variables:.1} µs."
+        )
+        .unwrap();
+    }
+    out
+}
+
+/// Bars of how many times faster the library is, on a scale of powers of ten.
+fn chart(rows: &[Row]) -> String {
+    let (line, left, width) = (24, 380, 420.0);
+    let bars: Vec<(&str, f64)> = rows
+        .iter()
+        .filter_map(|row| Some((row.name.as_str(), row.faster()?)))
+        .collect();
+    let height = line * bars.len() + 50;
+    let most = bars
+        .iter()
+        .map(|bar| bar.1)
+        .fold(10.0, f64::max)
+        .log10()
+        .ceil();
+    let mut out = format!(
+        "<svg xmlns=\"http://www.w3.org/2000/svg\" width=\"880\" height=\"{height}\" font-family=\"sans-serif\" font-size=\"12\">\n<rect width=\"880\" height=\"{height}\" fill=\"white\"/>\n<text x=\"10\" y=\"18\" font-weight=\"bold\">Times faster than the independent Rust evaluator (scale of powers of ten)</text>\n"
+    );
+    for power in 0..=most as u32 {
+        let x = left as f64 + width * power as f64 / most;
+        writeln!(out, "<line x1=\"{x:.0}\" y1=\"28\" x2=\"{x:.0}\" y2=\"{}\" stroke=\"#ccc\"/>\n<text x=\"{x:.0}\" y=\"{}\" text-anchor=\"middle\" fill=\"#666\">{}</text>", height - 20, height - 6, 10u64.pow(power)).unwrap();
+    }
+    for (i, (name, faster)) in bars.iter().enumerate() {
+        let bar = (width * faster.log10() / most).max(1.0);
+        let y = 34 + line * i;
+        writeln!(out, "<text x=\"{}\" y=\"{}\" text-anchor=\"end\">{}</text>\n<rect x=\"{left}\" y=\"{y}\" width=\"{bar:.0}\" height=\"16\" fill=\"#3a6ea5\"/>\n<text x=\"{:.0}\" y=\"{}\">{faster:.1}</text>", left - 8, y + 13, name, left as f64 + bar + 5.0, y + 13).unwrap();
+    }
+    out.push_str("</svg>\n");
+    out
+}
+
+const BEGIN: &str = "<!-- the table of tools/bench begins -->\n";
+const END: &str = "<!-- the table of tools/bench ends -->\n";
+
+fn store(folder: &Path, text: &str, chart: &str) {
+    let file = folder.join("SPEED.md");
+    let old = std::fs::read_to_string(&file).expect("docs/SPEED.md is there");
+    let begin = old.find(BEGIN).expect("the first mark") + BEGIN.len();
+    let end = old.find(END).expect("the second mark");
+    std::fs::write(&file, format!("{}{}{}", &old[..begin], text, &old[end..]))
+        .expect("SPEED.md is written");
+    std::fs::write(folder.join("speed.svg"), chart).expect("speed.svg is written");
+}

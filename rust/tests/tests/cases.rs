@@ -1,0 +1,518 @@
+//! The cases with known ends of tests/cases, through the library and through the evaluator.
+
+use mespindro::{Counts, Move, Reason, Refusal, Rule, Standing, Stop};
+use mespindro_tests::calls::on_program;
+use mespindro_tests::compare::{Call, Tally};
+use mespindro_tests::evaluator::table::write_table;
+use mespindro_tests::evaluator::text::write_text;
+use mespindro_tests::evaluator::tree::{program_size, Program};
+use mespindro_tests::evaluator::{self, NODES, TEXT};
+use mespindro_tests::on_big_stack;
+use mespindro_tests::random::Random;
+use mespindro_tests::short;
+
+/// A program with what is known of its run.
+struct Case {
+    name: String,
+    program: Program,
+    limit: u32,
+    room: usize,
+    end: Option<Program>,
+    nodes: Option<usize>,
+    reason: Reason,
+    steps: u32,
+    standings: Option<Vec<Standing>>,
+    rules: Option<Vec<Rule>>,
+    counts: Option<Counts>,
+    single: Option<Result<Move, Refusal>>,
+}
+
+/// The cases of a file: paragraphs of a name and lines of a word and its content.
+fn cases(file: &str) -> Vec<Case> {
+    let lines = file.lines().filter(|line| !line.starts_with(';'));
+    let plain = lines.collect::<Vec<_>>().join("\n");
+    let paragraphs = plain.split("\n\n").map(str::trim);
+    paragraphs.filter(|p| !p.is_empty()).map(case).collect()
+}
+
+fn case(paragraph: &str) -> Case {
+    let (name, lines) = paragraph.split_once('\n').expect("a name");
+    let line = |word: &str| {
+        let mut lines = lines.lines().filter_map(|line| line.split_once(' '));
+        lines.find(|(w, _)| *w == word).map(|(_, content)| content)
+    };
+    let number = |word: &str| line(word).map(|n| n.parse::<usize>().expect("a number"));
+    let program = short::program(line("program").expect("a program"));
+    let end = line("end").map(|end| match end {
+        "itself" => program.clone(),
+        other => short::program(other),
+    });
+    let (reason, steps) = stop(line("stop").expect("a stop"));
+    Case {
+        name: name.to_string(),
+        program,
+        limit: number("limit").unwrap_or(10_000) as u32,
+        room: number("room").unwrap_or(NODES),
+        end,
+        nodes: number("nodes"),
+        reason,
+        steps,
+        standings: line("stands").map(|s| words(s, standing)),
+        rules: line("rules").map(|r| words(r, rule)),
+        counts: line("counts").map(counts),
+        single: line("single").map(single),
+    }
+}
+
+fn stop(content: &str) -> (Reason, u32) {
+    let (reason, steps) = content.split_once(' ').expect("a reason and steps");
+    let reason = match reason {
+        "ended" => Reason::Ended,
+        "steps" => Reason::Steps,
+        "room" => Reason::Room,
+        other => panic!("no reason is {other}"),
+    };
+    (reason, steps.parse().expect("steps"))
+}
+
+/// The words of a line; `-` is none.
+fn words<T>(content: &str, word: fn(&str) -> T) -> Vec<T> {
+    let words = content.split(' ').filter(|w| *w != "-");
+    words.map(word).collect()
+}
+
+fn standing(word: &str) -> Standing {
+    match word {
+        "answer" => Standing::Answer,
+        "stuck" => Standing::Stuck,
+        "open" => Standing::Open,
+        "partial" => Standing::Partial,
+        other => panic!("no standing is {other}"),
+    }
+}
+
+fn rule(word: &str) -> Rule {
+    let mut all = Rule::ALL.into_iter();
+    let found = all.find(|rule| rule.name() == word);
+    found.unwrap_or_else(|| panic!("no rule is {word}"))
+}
+
+/// Six numbers in document 01's order.
+fn counts(content: &str) -> Counts {
+    let numbers = words(content, |n| n.parse().expect("a count"));
+    let [alloc, beta, fresh, guard, unif, fail] = numbers[..] else {
+        panic!("six counts are not {content}");
+    };
+    Counts {
+        alloc,
+        beta,
+        fresh,
+        guard,
+        unif,
+        fail,
+    }
+}
+
+/// What a single step answers: nodes, rule and thread, or `refused` and its number.
+fn single(content: &str) -> Result<Move, Refusal> {
+    let number = |word: &str| word.parse().expect("a number");
+    match *content.split(' ').collect::<Vec<_>>() {
+        ["refused", word] => Err(refusal(word)),
+        [nodes, word, thread] => Ok(Move {
+            nodes: number(nodes),
+            rule: rule(word),
+            thread: number(thread),
+        }),
+        _ => panic!("no answer of a step is {content}"),
+    }
+}
+
+/// Reads the program's text and runs it by the library, in tables of the case's room and in one of them larger.
+fn by_library(case: &Case) {
+    let name = &case.name;
+    let exact = 2 * case.room;
+    for (table_length, work_length) in [(exact, exact), (exact, 5000), (5000, exact + 1)] {
+        let mut table = vec![7; table_length];
+        let count = mespindro::read(&write_text(&case.program), &mut table);
+        assert_eq!(count, Ok(program_size(&case.program)), "{name}");
+        let count = count.unwrap();
+        assert_eq!(table[..2 * count], write_table(&case.program), "{name}");
+        let mut work = vec![7; work_length];
+        let got = mespindro::run(&mut table, count, &mut work, case.limit);
+        let stop = got.unwrap_or_else(|refusal| panic!("{name}: {refusal:?}"));
+        check_stop(case, &stop, &table);
+        check_counts(case, &stop);
+    }
+    if let Some(rules) = &case.rules {
+        assert_eq!(&rules_told(&case.program, case.steps), rules, "{name}");
+    }
+    if let Some(single) = case.single {
+        let table = write_table(&case.program);
+        let step = mespindro::step(&table, table.len() / 2, &mut [7; 4096]);
+        assert_eq!(step, single, "{name}");
+    }
+}
+
+fn check_stop(case: &Case, stop: &Stop, table: &[u16]) {
+    let name = &case.name;
+    assert_eq!(
+        (stop.reason, stop.steps),
+        (case.reason, case.steps),
+        "{name}"
+    );
+    if let Some(end) = &case.end {
+        assert_eq!(table[..2 * stop.nodes], write_table(end), "{name}");
+    }
+    if let Some(nodes) = case.nodes {
+        assert_eq!(stop.nodes, nodes, "{name}");
+    }
+    if let Some(standings) = &case.standings {
+        for (k, standing) in standings.iter().enumerate() {
+            assert_eq!(
+                mespindro::standing(table, stop.nodes, k),
+                Ok(*standing),
+                "{name}"
+            );
+        }
+        let past = mespindro::standing(table, stop.nodes, standings.len());
+        assert_eq!(past, Err(Refusal::NoThread), "{name}");
+    }
+    if let (1, Some(end)) = (case.steps, &case.end) {
+        single_step(name, &case.program, end);
+    }
+    // a single step of an ended program is refused, whatever the output
+    if stop.reason == Reason::Ended {
+        let step = mespindro::step(table, stop.nodes, &mut []);
+        assert_eq!(step, Err(Refusal::Finished), "{name}");
+    }
+}
+
+fn check_counts(case: &Case, stop: &Stop) {
+    let name = &case.name;
+    assert_eq!(stop.counts.sum(), u64::from(case.steps), "{name}");
+    if let Some(rules) = &case.rules {
+        assert_eq!(stop.counts, evaluator::counts(rules), "{name}");
+    }
+    if let Some(counts) = case.counts {
+        assert_eq!(stop.counts, counts, "{name}");
+    }
+}
+
+/// The rules that the library tells of so many single steps, one after another.
+fn rules_told(program: &Program, steps: u32) -> Vec<Rule> {
+    let (mut table, mut out) = (write_table(program), vec![7; 2 * NODES]);
+    let mut count = table.len() / 2;
+    let mut rules = Vec::new();
+    for _ in 0..steps {
+        let made = mespindro::step(&table, count, &mut out).expect("the run has made this step");
+        rules.push(made.rule);
+        count = made.nodes;
+        table = out.clone();
+    }
+    rules
+}
+
+/// That the call of one step gives what a run of one step gives.
+fn single_step(name: &str, program: &Program, end: &Program) {
+    let (table, end) = (write_table(program), write_table(end));
+    for length in [end.len(), end.len() + 1, 4200] {
+        let mut out = vec![7; length];
+        let step = mespindro::step(&table, table.len() / 2, &mut out);
+        assert_eq!(step.map(|made| made.nodes), Ok(end.len() / 2), "{name}");
+        assert_eq!(out[..end.len()], end, "{name}");
+    }
+}
+
+/// Runs the program by the evaluator and looks at each step's rule.
+fn by_evaluator(case: &Case) {
+    let name = &case.name;
+    let run = evaluator::run_program(case.program.clone(), case.room, case.limit);
+    let run = run.expect("the evaluator can tell");
+    let stop = run.stop();
+    assert_eq!(
+        (stop.reason, stop.steps),
+        (case.reason, case.steps),
+        "{name}"
+    );
+    if let Some(expected) = &case.end {
+        assert_eq!(&run.end, expected, "{name}");
+    }
+    if let Some(nodes) = case.nodes {
+        assert_eq!(stop.nodes, nodes, "{name}");
+    }
+    if let Some(standings) = &case.standings {
+        let got: Vec<Standing> = run.end.iter().map(evaluator::step::standing).collect();
+        assert_eq!(&got, standings, "{name}");
+    }
+    if let Some(rules) = &case.rules {
+        assert_eq!(&run.rules, rules, "{name}");
+    }
+    check_counts(case, &stop);
+}
+
+fn check_file(name: &str, file: &str, number: usize) {
+    let cases = cases(file);
+    assert_eq!(cases.len(), number, "cases in {name}");
+    let mut tally = Tally::default();
+    let mut random = Random::new(5);
+    on_big_stack(|| {
+        for case in &cases {
+            by_library(case);
+            by_evaluator(case);
+            for call in on_program(&case.program, &mut random) {
+                tally
+                    .compare(&call)
+                    .unwrap_or_else(|difference| panic!("{}: {difference}\n{call:?}", case.name));
+            }
+        }
+    });
+    println!("{name}: {number} cases, {tally}");
+}
+
+#[test]
+fn of_document_01() {
+    check_file("document-01.txt", include_str!("cases/document-01.txt"), 16);
+}
+
+#[test]
+fn of_request_2() {
+    check_file("which-rule.txt", include_str!("cases/which-rule.txt"), 21);
+}
+
+#[test]
+fn runs() {
+    check_file("runs.txt", include_str!("cases/runs.txt"), 59);
+}
+
+#[test]
+fn scale() {
+    check_file("scale.txt", include_str!("cases/scale.txt"), 18);
+}
+
+#[test]
+fn of_document_003() {
+    check_file(
+        "document-003.txt",
+        include_str!("cases/document-003.txt"),
+        15,
+    );
+}
+
+/// The lines of a file of one case a line: what stands before the blank and `;`.
+fn lines(file: &str) -> impl Iterator<Item = &str> {
+    let lines = file.lines().filter(|line| !line.starts_with(';'));
+    lines.map(|line| line.rsplit_once(" ;").expect("a reason").0)
+}
+
+fn refusal(number: &str) -> Refusal {
+    let number = number.parse().expect("a refusal's number");
+    Refusal::of_number(number).expect("a refusal")
+}
+
+/// A text with its repeated pieces written out: `{3 ab}` is `ababab`. `\n` is a newline.
+fn written_out(text: &str) -> Vec<u8> {
+    let (mut out, mut rest) = (String::new(), text);
+    while let Some((before, behind)) = rest.split_once('{') {
+        let (inside, after) = behind.split_once('}').expect("a closing brace");
+        let (times, piece) = inside.split_once(' ').expect("a number and a piece");
+        out += before;
+        out += &piece.repeat(times.parse().expect("a number"));
+        rest = after;
+    }
+    (out + rest).replace("\\n", "\n").into_bytes()
+}
+
+/// Numbers with a comma between them.
+fn listed(numbers: &str) -> Vec<u16> {
+    let numbers = numbers.split(',');
+    numbers.map(|n| n.parse().expect("a number")).collect()
+}
+
+/// The numbers of a table's words: each a number, or `K*n,n` for what stands behind the star, K times.
+fn numbers<'a>(words: impl Iterator<Item = &'a str>) -> Vec<u16> {
+    let of_word = |word: &str| match word.split_once('*') {
+        Some((times, piece)) => listed(piece).repeat(times.parse().expect("a number")),
+        None => listed(word),
+    };
+    words.flat_map(of_word).collect()
+}
+
+/// That reading the text answers what the word says.
+fn reads(name: &str, text: &[u8], out: usize, outcome: &str) {
+    let mut table = vec![7; out];
+    let got = mespindro::read(text, &mut table);
+    match outcome.strip_prefix("read:") {
+        Some(nodes) => {
+            let (nodes, numbers) = nodes.split_once('=').unwrap_or((nodes, ""));
+            assert_eq!(got, Ok(nodes.parse().expect("nodes")), "{name}");
+            if !numbers.is_empty() {
+                assert_eq!(table[..2 * got.unwrap()], listed(numbers), "{name}");
+            }
+        }
+        None if outcome == "one" => {
+            let refused = [Err(Refusal::TooLong), Err(Refusal::NotCanonical)];
+            assert!(!refused.contains(&got), "{name}: {got:?}");
+        }
+        None => assert_eq!(got, Err(refusal(outcome)), "{name}"),
+    }
+}
+
+#[test]
+fn texts() {
+    let mut number = 0;
+    for line in lines(include_str!("cases/texts.txt")) {
+        let mut words = line.splitn(4, ' ');
+        let mut word = || words.next().unwrap_or("");
+        let (name, out, outcome) = (word(), word(), word());
+        let (text, out) = (written_out(word()), out.parse().expect("a length"));
+        on_big_stack(|| {
+            reads(name, &text, out, outcome);
+            let call = Call::Read { text, out };
+            Tally::default().compare(&call).expect(name);
+        });
+        number += 1;
+    }
+    println!("texts.txt: {number} cases");
+}
+
+#[test]
+fn tables() {
+    let mut number = 0;
+    for line in lines(include_str!("cases/tables.txt")) {
+        let mut words = line.split(' ');
+        let name = words.next().expect("a name");
+        let count = words.next().expect("a count").parse().expect("a count");
+        let outcome = words.next().expect("an outcome");
+        every_call_answers(name, &numbers(words), count, outcome);
+        number += 1;
+    }
+    println!("tables.txt: {number} cases");
+}
+
+#[test]
+fn writes() {
+    let mut number = 0;
+    for line in lines(include_str!("cases/writes.txt")) {
+        let mut words = line.split(' ');
+        let name = words.next().expect("a name");
+        let out = words.next().expect("a length").parse().expect("a length");
+        let count = words.next().expect("a count").parse().expect("a count");
+        let outcome = words.next().expect("an outcome");
+        let table = numbers(words);
+        let mut bytes = vec![7; out];
+        let got = mespindro::write(&table, count, &mut bytes);
+        let got = got.map(|length| String::from_utf8_lossy(&bytes[..length]));
+        let expected = match outcome.starts_with('(') {
+            true => Ok(outcome.into()),
+            false => Err(refusal(outcome)),
+        };
+        assert_eq!(got, expected, "{name}");
+        let call = Call::Write { table, count, out };
+        Tally::default().compare(&call).expect(name);
+        number += 1;
+    }
+    println!("writes.txt: {number} cases");
+}
+
+#[test]
+fn threads() {
+    let mut number = 0;
+    for line in lines(include_str!("cases/threads.txt")) {
+        let mut words = line.split(' ');
+        let name = words.next().expect("a name");
+        let count = words.next().expect("a count").parse().expect("a count");
+        let parts = words.next().expect("the parts").split('|');
+        let parts: Vec<Vec<u16>> = parts.filter(|p| *p != "-").map(listed).collect();
+        let table = numbers(words);
+        for (k, part) in parts.iter().enumerate() {
+            assert_eq!(mespindro::thread(&table, count, k), part, "{name}");
+        }
+        for k in [parts.len(), usize::MAX] {
+            assert!(mespindro::thread(&table, count, k).is_empty(), "{name}");
+        }
+        number += 1;
+    }
+    println!("threads.txt: {number} cases");
+}
+
+/// Every call on the table refuses with the number, or none refuses it where the outcome is `-`.
+fn every_call_answers(name: &str, table: &[u16], count: usize, outcome: &str) {
+    let (mut run_table, mut work) = (table.to_vec(), vec![7; 4096]);
+    let answers = [
+        mespindro::write(table, count, &mut [7; TEXT]).err(),
+        mespindro::step(table, count, &mut [7; 4096]).err(),
+        mespindro::run(&mut run_table, count, &mut work, 9).err(),
+        mespindro::standing(table, count, 0).err(),
+    ];
+    let part = mespindro::thread(table, count, 0);
+    assert!(outcome == "-" || part.is_empty(), "{name}: a part");
+    for answer in answers {
+        let number = answer.map_or(0, Refusal::number);
+        match outcome {
+            "-" => assert!(![1, 6, 8].contains(&number), "{name}: refused {number}"),
+            _ => assert_eq!(answer, Some(refusal(outcome)), "{name}"),
+        }
+    }
+}
+
+/// What the program on standard input does with the calls; its own bytes are tested where it is built.
+fn report(input: &[u8]) -> Vec<u8> {
+    let (mut table, mut work) = (vec![0; 2 * NODES], vec![0; 2 * NODES]);
+    let run = mespindro::read(input, &mut table)
+        .and_then(|count| mespindro::run(&mut table, count, &mut work, 10_000));
+    let stop = match run {
+        Ok(stop) => stop,
+        Err(refusal) => {
+            let number = refusal.number().to_string();
+            return format!("(7:refused{}:{number})", number.len()).into_bytes();
+        }
+    };
+    let reason = match stop.reason {
+        Reason::Ended => "5:ended",
+        Reason::Steps => "5:steps",
+        Reason::Room => "4:room",
+    };
+    let steps = stop.steps.to_string();
+    let mut text = vec![0; TEXT];
+    let length = mespindro::write(&table, stop.nodes, &mut text).expect("an end is written");
+    let head = format!("({reason}{}:{steps}", steps.len());
+    [head.as_bytes(), &text[..length], b")"].concat()
+}
+
+#[test]
+fn program_on_standard_input() {
+    let endless = short::program("((a (l ((a b0 b0))) (l ((a b0 b0)))))");
+    let endless = String::from_utf8(write_text(&endless)).unwrap();
+    let bytes = "x".repeat(24_577);
+    let cases = [
+        ("()", "(5:ended1:0())"),
+        ("()\n", "(7:refused1:3)"),
+        ("", "(7:refused1:3)"),
+        (&bytes, "(7:refused1:2)"),
+        ("((1:v1:0))", "(7:refused1:6)"),
+        (
+            "((1:n(1:g(1:u(1:v1:0)(1:c1:1))(1:v1:0))))",
+            "(5:ended1:3((1:c1:1)))",
+        ),
+        (
+            &endless,
+            "(5:steps5:10000((1:a(1:L1:1((1:a(1:v1:0)(1:v1:0))))(1:L1:1((1:a(1:v1:0)(1:v1:0)))))))",
+        ),
+        (
+            "((1:a(1:x4:2047)(1:n(1:v1:0))))",
+            "(5:ended1:1((1:a(1:x4:2047)(1:x1:0))))",
+        ),
+    ];
+    on_big_stack(|| {
+        for (input, output) in cases {
+            let got = String::from_utf8(report(input.as_bytes())).unwrap();
+            assert_eq!(got, output, "{input}");
+        }
+        let rule = "(l ((n (g (u (a c1 b0) b1) (a b0 b1)))))";
+        let piling = short::program(&format!("((a {rule} (a c1 {rule})))"));
+        let got = report(&write_text(&piling));
+        assert!(got.starts_with(b"(4:room4:3017((1:g(1:c1:0)(1:g(1:c1:0)"));
+        assert_eq!(got.len(), 13_249);
+    });
+    println!("standard input: {} cases", cases.len() + 1);
+}
