@@ -70,6 +70,14 @@ impl Names {
             .map(|(n, _)| n.as_str())
     }
 
+    /// With `ok` for constructor 0, as people call it, where that is free.
+    pub fn with_ok(mut self) -> Names {
+        if self.number("ok").is_none() && self.name(0).is_none() {
+            self.declare("ok", 0);
+        }
+        self
+    }
+
     fn declare(&mut self, name: &str, number: u16) {
         self.0.push((name.to_string(), number));
     }
@@ -142,6 +150,11 @@ pub fn line(term: &Term, names: &Names, way: Option<&[Side]>, width: usize) -> S
 /// An unknown's name, or its number.
 pub fn unknown(number: u16, name: &Name) -> String {
     piece::unknown(number, name)
+}
+
+/// An allocated rule that is spoken of.
+pub fn rule(location: u16, name: &Name) -> String {
+    piece::rule(location, name)
 }
 
 /// A number of a plain decimal (no sign, no leading zero) up to `most`.
