@@ -24,8 +24,19 @@ pub fn page(title: &str, story: &Story, end: &End, names: &Names) -> String {
     out += &threads(end, names);
     out += &rules(end);
     out += &picture::picture(story, end, names);
-    out
+    out + TERMS
 }
+
+/// For those who read the page and have not written the rule set.
+const TERMS: &str = "<h2>How the terms are to be read</h2>\n<table>\n\
+<tr><td><code>port-7</code><td>a plain name, equal to itself alone\n\
+<tr><td><code>?port</code><td>an unknown: what it is has not been found out yet\n\
+<tr><td><code>(u A B)</code><td>a goal: A and B are to be equal; where they cannot be, the alternative dies\n\
+<tr><td><code>(g A B T)</code><td>T, once the conditions A and B are met; <code>ok</code> is one that was met\n\
+<tr><td><code>(a F X Y)</code><td>F with X and Y: a rule is given them, a plain name like <code>placement</code> keeps them\n\
+<tr><td><code>(l x (…))</code><td>a rule that asks for x; in the inner brackets are its alternatives. Made ready it is <code>(L 0 x (…))</code>\n\
+<tr><td><code>(n x T)</code><td>T with a new unknown x\n\
+<tr><td><code>…</code><td>something that was left out for want of room\n</table>\n";
 
 /// Text as HTML shows it.
 fn escaped(text: &str) -> String {
@@ -82,7 +93,9 @@ fn threads(end: &End, names: &Names) -> String {
             "<p>No alternative is left: every one has died, and the request cannot be met.</p>\n";
         return out;
     }
-    out += "<p>Only an answer may be placed. Of any other it is said what is missing.</p>\n";
+    if end.stop.reason == Reason::Ended {
+        out += "<p>Only an answer may be placed. Of any other it is said what is missing.</p>\n";
+    }
     out += "<table>\n<tr><th>thread<th>it is<th>the alternative\n";
     for (k, (standing, term)) in end.threads.iter().enumerate() {
         let missing = missing(end, k).map_or(String::new(), |m| format!(", {}", escaped(&m)));

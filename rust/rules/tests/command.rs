@@ -88,19 +88,38 @@ fn trace() {
     }
 }
 
-/// The accident, told: the first steps of it and the fail that the other evaluator forgot.
+/// What the two pages show of a trace is a part of it.
 #[test]
 fn trace_of_the_accident() {
+    let page = file("README.md");
+    let (_, told) = page.split_once("```trace\n").expect("a trace");
+    let (told, _) = told.split_once("```").expect("its end");
     let traced = printed(&["run", "accident.rules", "--trace"]);
-    let told = "\
-step 7, unif, thread 0: ?port is port-7
-  before    (g ok [(u ?port port-7)] (u shut open) …)
-  after     (g ok [ok] (u shut open) (a placement red port-7 vlan-101))
-step 8, fail, thread 0: shut is not open
-  before    (g ok ok [(u shut open)] (a placement red port-7 vlan-101))
-  dropped
-";
     assert!(traced.contains(told), "{traced}");
+    let indented: String = told.lines().map(|line| format!("    {line}\n")).collect();
+    assert!(file("../docs/USING.md").contains(&indented));
+}
+
+/// The commands that docs/USING.md shows, with what they print.
+#[test]
+fn commands_of_the_page() {
+    let folder = own("using");
+    let link = std::os::unix::fs::symlink(self::folder(), folder.join("rules"));
+    link.unwrap();
+    fs::write(folder.join("torn.csexp"), FILES[1].1).unwrap();
+    let page = file("../docs/USING.md");
+    let shown: Vec<&str> = page.split("\n    $ rules ").skip(1).collect();
+    for shown in &shown {
+        let block = shown.split("\n\n").next().unwrap();
+        let (words, expected) = block.split_once('\n').expect("what it prints");
+        let words: Vec<&str> = words.split(' ').collect();
+        let output = rules(&folder, &words);
+        let printed = [output.stdout, output.stderr].concat();
+        let printed = String::from_utf8(printed).unwrap();
+        let indented: Vec<String> = printed.lines().map(|line| format!("    {line}")).collect();
+        assert_eq!(indented.join("\n"), expected, "{words:?}");
+    }
+    assert_eq!(shown.len(), 2);
 }
 
 /// The page has every thread of the end, and nothing from outside.

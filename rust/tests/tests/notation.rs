@@ -75,8 +75,8 @@ fn deep_programs() {
     ];
     for (chain, levels) in chains.into_iter().zip([2045, 1022, 1022, 681]) {
         let made = |levels| (0..levels).fold(Term::Constructor(0), |inner, _| chain(inner));
-        check_round_trip(&write_text(&vec![made(levels)]), &Names::default());
-        let error = program(&write_text(&vec![made(levels + 1)])).unwrap_err();
+        check_round_trip(&write_text(&[made(levels)]), &Names::default());
+        let error = program(&write_text(&[made(levels + 1)])).unwrap_err();
         assert!(error.message.contains("more than 2048 nodes"), "{error}");
     }
     println!("4 chains at the node limit, 4 beyond it");

@@ -89,29 +89,25 @@ impl<'s> Painter<'s> {
 
     /// The alternatives of one fork, those that died one after the other folded.
     fn siblings(&mut self, ids: &[usize], fork: Option<f64>) {
-        let mut at = 0;
-        while at < ids.len() {
+        let mut rest = ids;
+        while !rest.is_empty() {
             let dead = |id: &&usize| matches!(self.branch(**id).fate, Fate::Died(..));
-            let run = ids[at..].iter().take_while(dead).count();
-            let next = at + run.max(1);
-            let hang = |id: usize| {
-                fork.map(|x| Hang {
-                    x,
-                    goes_on: id + 1 < ids.len(),
-                })
-            };
-            if run >= FOLDED {
+            let dead = rest.iter().take_while(dead).count();
+            let (next, behind) = rest.split_at(dead.max(1));
+            let goes_on = !behind.is_empty();
+            if dead >= FOLDED {
                 self.out += "<details><summary>";
-                self.folded(&ids[at..next], hang(next - 1));
+                self.folded(next, fork.map(|x| Hang { x, goes_on }));
                 self.out += "</summary>\n";
             }
-            for id in at..next {
-                self.alternative(ids[id], hang(id));
+            for (place, id) in next.iter().enumerate() {
+                let goes_on = goes_on || place + 1 < next.len();
+                self.alternative(*id, fork.map(|x| Hang { x, goes_on }));
             }
-            if run >= FOLDED {
+            if dead >= FOLDED {
                 self.out += "</details>\n";
             }
-            at = next;
+            rest = behind;
         }
     }
 
