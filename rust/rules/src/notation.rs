@@ -103,9 +103,11 @@ pub fn read_incoherent(readable: &str) -> Result<Program, Error> {
     readable::read(readable).map(|(_, program, _)| program)
 }
 
-/// A file's bytes as the characters of a readable form.
+/// A file's bytes as the characters of a readable form; some editors put a mark before the first one.
 pub fn utf8(content: &[u8]) -> Result<&str, Error> {
-    std::str::from_utf8(content).map_err(|error| {
+    let text = std::str::from_utf8(content);
+    let text = text.map(|text| text.strip_prefix('\u{feff}').unwrap_or(text));
+    text.map_err(|error| {
         let before = String::from_utf8_lossy(&content[..error.valid_up_to()]);
         let last = before.rsplit('\n').next().unwrap_or("");
         Error {

@@ -36,7 +36,7 @@ const TERMS: &str = "<h2>How the terms are to be read</h2>\n<table>\n\
 <tr><td><code>(a F X Y)</code><td>F with X and Y: a rule is given them, a plain name like <code>placement</code> keeps them\n\
 <tr><td><code>(l x (…))</code><td>a rule that asks for x; in the inner brackets are its alternatives. Made ready it is <code>(L 0 x (…))</code>\n\
 <tr><td><code>(n x T)</code><td>T with a new unknown x\n\
-<tr><td><code>…</code><td>something that was left out for want of room\n</table>\n";
+<tr><td><code>…</code><td>something that was left out because the line was full\n</table>\n";
 
 /// Text as HTML shows it.
 fn escaped(text: &str) -> String {

@@ -3,7 +3,8 @@
 use mespindro::Rule;
 
 use crate::follow::Step;
-use crate::notation::{line, unknown, Names};
+use crate::notation::{line, rule, unknown, Names};
+use crate::redex::part_at;
 use crate::term::{each_term, free_variables, Term};
 use crate::why::why;
 
@@ -41,8 +42,12 @@ fn label(step: &Step, k: usize) -> String {
 pub fn what(step: &Step, names: &Names, width: usize) -> String {
     let shown = |term: &Term| line(term, names, None, width);
     match (step.rule, step.place()) {
-        (Rule::Alloc, Term::Abstraction(Some(name), _)) => format!("the rule on {name} is ready"),
-        (Rule::Alloc, _) => "a rule is ready".to_string(),
+        (Rule::Alloc, _) => match step.after.first().map(|t| part_at(t, &step.way)) {
+            Some(Term::Allocated(location, name, _)) => {
+                format!("{} is ready", rule(*location, name))
+            }
+            _ => "a rule is ready".to_string(),
+        },
         (Rule::Beta, Term::Application(function, value)) => {
             given(function, &shown(value), step.after.len())
         }
@@ -67,7 +72,7 @@ pub fn what(step: &Step, names: &Names, width: usize) -> String {
             Some(why) => why.words(names, width),
             None => format!("{} cannot be {}", shown(left), shown(right)),
         },
-        (rule, _) => rule.to_string(),
+        (other, _) => other.to_string(),
     }
 }
 
@@ -79,7 +84,7 @@ fn given(function: &Term, value: &str, alternatives: usize) -> String {
     };
     match (name, alternatives) {
         (_, 0) => "a rule without alternatives is applied".to_string(),
-        (_, 1) if chosen => "a rule that looks at nothing".to_string(),
+        (_, 1) if chosen => "a rule is applied".to_string(),
         (_, several) if chosen => format!("a choice of {several}"),
         (Some(name), 1) => format!("{name} is {value}"),
         (Some(name), several) => format!("{name} is {value}; {several} alternatives"),
