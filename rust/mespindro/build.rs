@@ -121,7 +121,7 @@ fn place() -> Result<&'static str, String> {
         ("x86_64", "linux") => Ok("target/staticlib"),
         (machine, "linux") if machine == env::consts::ARCH => Ok("target/native"),
         _ => Err(format!(
-            "tools/archive makes no archive for {machine} and {system} on this machine. If you have one, set {LIB_DIR} to its folder"
+            "tools/archive makes no archive for {machine}-{system} on this machine: if you have one, set {LIB_DIR} to its folder"
         )),
     }
 }
@@ -137,7 +137,9 @@ fn make(root: &Path) -> Result<(), String> {
         .status();
     match status.map_err(at(&tool))? {
         status if status.success() => Ok(()),
-        status => Err(format!("tools/archive failed: {status}")),
+        status => Err(format!(
+            "tools/archive failed ({status}); an archive from elsewhere is taken where {LIB_DIR} names its folder"
+        )),
     }
 }
 
