@@ -1,16 +1,16 @@
 /* Places tenants on ports: reads a rule set from a file (rules/leaf-48.csexp is one), runs it, and prints a line for each alternative of its
  * end.
  *
- * tools/archive writes the archive for this machine:
+ * tools/install puts the header and the archive where pkg-config finds them:
  *
- *     tools/archive && cc -O2 examples/place.c target/native/libmespindro.a -o place && ./place rules/leaf-48.csexp
+ *     tools/install "$HOME/mespindro" && export PKG_CONFIG_PATH="$HOME/mespindro/lib/pkgconfig"
+ *     cc examples/place.c $(pkg-config --cflags --libs mespindro) -o place && ./place rules/leaf-48.csexp
  *
  * Its exit status is 0 where there is an alternative and every one is a placement. A switch that is to be configured from this output must not go on otherwise.
  */
+#include <mespindro.h>
 #include <stdint.h>
 #include <stdio.h>
-
-#include "../include/mespindro.h"
 
 /* The numbers of the rule sets in rules/. */
 enum { PLACEMENT = 3, PORTS = 5000, TENANTS = 6000, RANGE = 1000 };
@@ -25,19 +25,20 @@ static uint8_t text[MESPINDRO_TEXT + 1];
 static uint16_t table[MESPINDRO_TABLE];
 static uint16_t work[MESPINDRO_TABLE];
 
+/* The names of docs/USING.md, which tells what an operator is to look at. */
 static const char *refusal_name(uint16_t refusal) {
     switch (refusal) {
-    case MESPINDRO_NO_PROGRAM: return "the table does not hold a program";
-    case MESPINDRO_TOO_LONG: return "the text is too long";
-    case MESPINDRO_NOT_CANONICAL: return "the text is not one canonical S-expression";
-    case MESPINDRO_OUT_OF_PLACE: return "a list or an atom is out of place";
-    case MESPINDRO_BAD_NUMBER: return "a number is no plain decimal or out of its range";
-    case MESPINDRO_NO_BINDER: return "a bound variable has no binder";
-    case MESPINDRO_TOO_MANY_NODES: return "the program has too many nodes";
-    case MESPINDRO_INCOHERENT: return "a thread is not coherent";
-    case MESPINDRO_NO_ROOM: return "the result does not fit its buffer";
-    case MESPINDRO_NO_THREAD: return "there is no such thread";
-    case MESPINDRO_FINISHED: return "every thread is finished";
+    case MESPINDRO_NO_PROGRAM: return "no program";
+    case MESPINDRO_TOO_LONG: return "too long";
+    case MESPINDRO_NOT_CANONICAL: return "not canonical";
+    case MESPINDRO_OUT_OF_PLACE: return "out of place";
+    case MESPINDRO_BAD_NUMBER: return "bad number";
+    case MESPINDRO_NO_BINDER: return "no binder";
+    case MESPINDRO_TOO_MANY_NODES: return "too many nodes";
+    case MESPINDRO_INCOHERENT: return "incoherent";
+    case MESPINDRO_NO_ROOM: return "no room";
+    case MESPINDRO_NO_THREAD: return "no thread";
+    case MESPINDRO_FINISHED: return "finished";
     default: return "a refusal that this program does not know";
     }
 }

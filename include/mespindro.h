@@ -1,6 +1,10 @@
-/* Mespindro: the evaluator of placement rules, as C sees it. Link target/staticlib/libmespindro.a, which `rt staticlib mespindro` writes: x86-64
- * Linux code with C's usual calling convention, which needs memcpy and memset and nothing else. tools/archive writes one for the machine at
- * hand, target/native/libmespindro.a.
+/* Mespindro: the evaluator of placement rules, as C sees it. To link it, either install it and ask pkg-config,
+ *
+ *     tools/install PREFIX
+ *     cc place.c $(PKG_CONFIG_PATH=PREFIX/lib/pkgconfig pkg-config --cflags --libs mespindro)
+ *
+ * or link one of the archives that tools/archive makes: target/staticlib/libmespindro.a, x86-64 Linux code for the switch, or
+ * target/native/libmespindro.a, for the machine at hand. Both have C's usual calling convention, and need memcpy and memset and nothing else.
  *
  * A rule set is exchanged as a text, Rivest's canonical S-expressions; README.md has one. In memory a program is a table: two 16-bit numbers
  * a node, kind and number, in preorder. A table never leaves the process: write a text, send it, read it again.

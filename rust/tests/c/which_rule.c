@@ -1,11 +1,10 @@
-/* Prints every field of what a step and a run answer, accepted and refused, for the program of a text: tests/tests/which_rule.rs knows what it
- * must be. Each field is printed by its name, so that one that arrives in another's place is seen.
+/* Prints every field of what a step and a run answer, accepted and refused, for the program of a text: rust/tests/tests/which_rule.rs knows what
+ * it must be. Each field is printed by its name, so that one that arrives in another's place is seen.
  */
+#include <mespindro.h>
 #include <stddef.h>
 #include <stdint.h>
 #include <stdio.h>
-
-#include "../../include/mespindro.h"
 
 #define STANDS(type, field, place) _Static_assert(offsetof(struct type, field) == (place), #field)
 

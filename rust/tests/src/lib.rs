@@ -4,6 +4,7 @@ pub mod calls;
 pub mod compare;
 pub mod evaluator;
 pub mod generate;
+pub mod progress;
 pub mod random;
 pub mod short;
 pub mod shrink;

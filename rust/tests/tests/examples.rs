@@ -1,5 +1,5 @@
-//! The examples, built and run: examples/place.c in C, tests/examples/place.rs in Rust, and on Arm also the C one for x86-64 with the archive
-//! that the switch gets, under the toolchain's emulator. All print the same for every rule set.
+//! The examples, built and run: examples/place.c in C, rust/mespindro/examples/place.rs in Rust, and on Arm also the C one for x86-64 with the
+//! archive that the switch gets, under the toolchain's emulator. All print the same for every rule set.
 
 mod in_c;
 
@@ -57,7 +57,7 @@ fn cases() -> Vec<(&'static str, String, i32)> {
         "thread 0: partial, something in it is undecided or still a rule",
         "tenant 3 -> port 9, VLAN 103",
     ];
-    let refused = "read refused, 3: the text is not one canonical S-expression";
+    let refused = "read refused, 3: not canonical";
     vec![
         ("two-tenants.csexp", lines(&two), 0),
         ("leaf-48.csexp", leaf, 0),
@@ -86,10 +86,8 @@ fn check(place: impl Fn(&Path) -> Output) {
 
 #[test]
 fn place_in_rust() {
-    // cargo builds the examples beside the tests' own folder
-    let test = std::env::current_exe().unwrap();
-    let place = test.parent().unwrap().join("../examples/place");
-    check(|file| Command::new(&place).arg(file).output().unwrap());
+    let place = env!("CARGO_BIN_EXE_place");
+    check(|file| Command::new(place).arg(file).output().unwrap());
 }
 
 #[test]

@@ -65,7 +65,7 @@ fn each_count_in_its_own_field() {
     assert_eq!(made.thread, 2);
 }
 
-/// What tests/c/which_rule.c prints for the program: a step and a run, both of its end, both refused with 1.
+/// What c/which_rule.c prints for the program: a step and a run, both of its end, both refused with 1.
 const PRINTED: &str = "\
 step: nodes 73, thread 2, rule 6, refusal 0
 run: nodes 22, steps 21, alloc 1, beta 2, fresh 3, guard 4, unif 5, fail 6, reason 1, refusal 0
@@ -88,12 +88,12 @@ fn prints(mut program: std::process::Command) {
 
 #[test]
 fn in_c() {
-    prints(in_c::for_this_machine("tests/c/which_rule.c", "c11")());
+    prints(in_c::for_this_machine("rust/tests/c/which_rule.c", "c11")());
 }
 
 #[test]
 fn in_c_for_the_switch() {
-    if let Some(program) = in_c::for_the_switch("tests/c/which_rule.c") {
+    if let Some(program) = in_c::for_the_switch("rust/tests/c/which_rule.c") {
         prints(program());
     }
 }

@@ -4,6 +4,7 @@
 use mespindro_tests::calls::random_calls;
 use mespindro_tests::compare::{compare, Call, Tally};
 use mespindro_tests::on_big_stack;
+use mespindro_tests::progress::Progress;
 use mespindro_tests::random::Random;
 use mespindro_tests::shrink::shrink;
 use std::process::ExitCode;
@@ -33,9 +34,16 @@ fn fuzz(time: Duration, seed: u64) -> ExitCode {
     let mut random = Random::new(seed);
     let mut tally = Tally::default();
     let mut inputs = 0;
+    let mut progress = Progress::on_terminal();
     while start.elapsed() < time {
+        progress.each_second(|| {
+            let (past, all) = (start.elapsed().as_secs(), time.as_secs());
+            let compared = tally.compared();
+            format!("{past} of {all} s, {inputs} inputs, {compared} compared")
+        });
         for call in random_calls(&mut random) {
             if tally.compare(&call).is_err() {
+                progress.clear();
                 println!("input {inputs}");
                 report(shrink(call));
                 return ExitCode::FAILURE;
@@ -43,6 +51,7 @@ fn fuzz(time: Duration, seed: u64) -> ExitCode {
         }
         inputs += 1;
     }
+    progress.clear();
     println!("{inputs} inputs, {tally}");
     ExitCode::SUCCESS
 }

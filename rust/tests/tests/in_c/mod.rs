@@ -10,9 +10,18 @@ pub fn root() -> PathBuf {
 
 /// Where programs and their inputs go.
 pub fn folder() -> PathBuf {
-    let folder = root().join("target/examples");
-    std::fs::create_dir_all(&folder).unwrap();
-    folder
+    PathBuf::from(env!("CARGO_TARGET_TMPDIR"))
+}
+
+/// One of the two archives that tools/archive makes, of the crates as they stand.
+fn archive(place: &str) -> PathBuf {
+    build(root().join("tools/archive"), &[]);
+    root().join("target").join(place).join("libmespindro.a")
+}
+
+/// The folder of the header.
+fn include() -> String {
+    format!("-I{}", root().join("include").display())
 }
 
 fn build(program: impl AsRef<Path>, arguments: &[String]) {
@@ -31,11 +40,11 @@ fn words(paths: &[&Path]) -> Vec<String> {
 pub fn for_this_machine(source: &str, standard: &str) -> impl Fn() -> Command {
     let source = root().join(source);
     let program = folder().join(source.file_stem().unwrap());
-    let archive = root().join("target/native/libmespindro.a");
+    let archive = archive("native");
     let mut arguments: Vec<String> = ["-Wall", "-Wextra", "-Werror", "-pedantic", "-O2"]
         .map(String::from)
         .to_vec();
-    arguments.extend([format!("-std={standard}"), "-o".to_string()]);
+    arguments.extend([format!("-std={standard}"), include(), "-o".to_string()]);
     arguments.extend(words(&[&program, &source, &archive]));
     build("cc", &arguments);
     move || Command::new(&program)
@@ -104,7 +113,7 @@ fn build_for_switch(programs: &Path, libraries: &Path, source: &Path, program: &
         .map(String::from)
         .to_vec();
     arguments.extend(headers());
-    arguments.extend(["-c".to_string(), source.display().to_string()]);
+    arguments.extend([include(), "-c".to_string(), source.display().to_string()]);
     arguments.extend(["-o".to_string(), object.display().to_string()]);
     build(programs.join("bin/clang"), &arguments);
 
@@ -119,10 +128,7 @@ fn build_for_switch(programs: &Path, libraries: &Path, source: &Path, program: &
             .collect()
     };
     arguments.extend(of_kit(&["Scrt1.o", "crti.o", "crtbeginS.o"]));
-    arguments.extend(words(&[
-        &object,
-        &root().join("target/staticlib/libmespindro.a"),
-    ]));
+    arguments.extend(words(&[&object, &archive("staticlib")]));
     arguments.extend(of_kit(&[
         "libc.so.6",
         "libc_nonshared.a",

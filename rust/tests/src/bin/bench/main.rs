@@ -11,6 +11,7 @@ use mespindro::Standing;
 use mespindro_tests::evaluator::table::read_table;
 use mespindro_tests::evaluator::{self, NODES, TEXT};
 use mespindro_tests::on_big_stack;
+use mespindro_tests::progress::Progress;
 use std::fmt::Write;
 use std::hint::black_box;
 use std::path::Path;
@@ -45,12 +46,31 @@ fn main() {
     }
 }
 
+/// A row that is no run: what is measured, and how.
+type Other = (&'static str, fn() -> Row);
+
+const OTHERS: [Other; 4] = [
+    ("reading a text", reading),
+    ("writing a text", writing),
+    ("the standing of a structure", standing),
+    ("placements by standing and thread", reading_out),
+];
+
 fn measure_all() -> Vec<Row> {
-    let mut rows: Vec<Row> = cases().iter().map(measure).collect();
-    rows.push(reading());
-    rows.push(writing());
-    rows.push(standing());
-    rows.push(reading_out());
+    let cases = cases();
+    let all = cases.len() + OTHERS.len();
+    let mut progress = Progress::on_terminal();
+    let mut rows = Vec::new();
+    let mut next = |name: &str, measure: &dyn Fn() -> Row| {
+        progress.show(&format!("row {} of {all}: {name}", rows.len() + 1));
+        rows.push(measure());
+    };
+    for case in &cases {
+        next(case.name, &|| measure(case));
+    }
+    for (name, measure) in OTHERS {
+        next(name, &measure);
+    }
     rows
 }
 
