@@ -21,7 +21,7 @@ use rules::term::{each_term, Term};
 use rules::{trace, why};
 
 /// How many random programs are followed, and for how many steps each.
-const PROGRAMS: usize = 2000;
+const PROGRAMS: usize = 1000;
 const STEPS: u32 = 60;
 
 /// A program with a name for every binder.
@@ -103,7 +103,7 @@ fn steps_and_names() {
         })
     });
     println!("{steps} steps with all their names, {compared} compared");
-    assert!(steps > 10_000 && compared > 9 * steps / 10);
+    assert!(steps > 5000 && compared > 9 * steps / 10);
 }
 
 /// Two unknowns of one thread have one name only where they are one.
@@ -147,7 +147,7 @@ fn why_it_failed() {
         })
     });
     println!("{failed} goals failed, {met} were met");
-    assert!(failed > 1000 && met > 1000);
+    assert!(failed > 500 && met > 500);
 }
 
 /// Lines are no wider than asked for, show the place, and leave nothing out where all of it fits.
@@ -209,7 +209,7 @@ fn every_branch() {
         }
     });
     println!("{branches} branches");
-    assert!(branches > 5000);
+    assert!(branches > 2500);
 }
 
 /// Every element that is opened is closed, but for those of a table and those without an end.
