@@ -1,12 +1,18 @@
 //! The command for rule sets.
 
+mod page_file;
+
+use std::ffi::OsString;
+use std::fmt::Display;
 use std::fs;
 use std::io::{self, ErrorKind, Write};
+use std::path::{Path, PathBuf};
 use std::process::ExitCode;
 
+use page_file::PageFile;
 use rules::notation::{self, Error, Names};
 use rules::page::page;
-use rules::run::{describe, is_canonical, run_seen, RuleSet, STEPS};
+use rules::run::{describe, is_canonical, run, run_seen, End, RuleSet, STEPS};
 use rules::story::Story;
 use rules::trace;
 
@@ -14,9 +20,12 @@ const USAGE: &str = "\
 rules text FILE                          the readable form in FILE as canonical text, without a newline at its end
 rules show FILE [NAMES]                  the canonical text in FILE as readable form, with the names that the file NAMES declares
 rules run [--trace] [--html PAGE] FILE   runs either form for at most 10,000 steps and tells how it ends
-    --trace        tells each step, on lines of at most COLUMNS characters (80 if that is not set)
+    --trace        tells each step, on lines of at most COLUMNS characters (80 if that is not set, and never less than 40)
     --html PAGE    writes the run as a picture: one page that needs nothing else
 ";
+
+/// Nested programs are worked by functions that call themselves.
+const STACK: usize = 256 << 20;
 
 /// What went wrong, and the status that the command ends with.
 struct Failure {
@@ -32,34 +41,45 @@ fn failure(message: impl Into<String>) -> Failure {
     }
 }
 
-fn main() -> ExitCode {
-    let arguments: Vec<String> = std::env::args().skip(1).collect();
-    let words: Vec<&str> = arguments.iter().map(String::as_str).collect();
-    match command(&words) {
-        Ok(()) => ExitCode::SUCCESS,
-        Err(Failure { message, status }) => {
-            eprint!("{message}");
-            ExitCode::from(status)
-        }
-    }
-}
-
-fn command(words: &[&str]) -> Result<(), Failure> {
-    match words {
-        ["text", file] => print(&text(file)?),
-        ["show", file] => print(&show(file, &Names::default())?),
-        ["show", file, names] => print(&show(file, &declared(names)?)?),
-        ["run", rest @ ..] => run(&Run::of(rest)?),
-        ["help" | "--help" | "-h"] => print(USAGE.as_bytes()),
-        ["--version"] => print(concat!("rules ", env!("CARGO_PKG_VERSION"), "\n").as_bytes()),
-        _ => Err(usage()),
-    }
-}
-
 fn usage() -> Failure {
     Failure {
         message: USAGE.to_string(),
         status: 2,
+    }
+}
+
+fn main() -> ExitCode {
+    let words: Vec<OsString> = std::env::args_os().skip(1).collect();
+    let worker = std::thread::Builder::new().stack_size(STACK);
+    let worker = worker.spawn(move || command(&words));
+    let done = worker.map(|worker| worker.join());
+    match done {
+        Ok(Ok(Ok(()))) => ExitCode::SUCCESS,
+        Ok(Ok(Err(Failure { message, status }))) => {
+            // where this cannot be written either, the status still tells
+            let _ = io::stderr().write_all(message.as_bytes());
+            ExitCode::from(status)
+        }
+        _ => ExitCode::FAILURE,
+    }
+}
+
+fn command(words: &[OsString]) -> Result<(), Failure> {
+    let Some((verb, rest)) = words.split_first() else {
+        return Err(usage());
+    };
+    match (verb.to_str().unwrap_or(""), rest) {
+        ("help" | "--help" | "-h", _) => print(USAGE.as_bytes()),
+        (_, [.., last]) if last == "--help" || last == "-h" => print(USAGE.as_bytes()),
+        ("--version", []) => print(concat!("rules ", env!("CARGO_PKG_VERSION"), "\n").as_bytes()),
+        ("text", [file]) => print(&text(Path::new(file))?),
+        ("show", [file]) => print(&show(Path::new(file), &Names::default())?),
+        ("show", [file, names]) => {
+            let names = declared(Path::new(names))?;
+            print(&show(Path::new(file), &names)?)
+        }
+        ("run", rest) => Asked::of(rest)?.run(),
+        _ => Err(usage()),
     }
 }
 
@@ -79,48 +99,66 @@ fn written(done: io::Result<()>) -> Result<(), Failure> {
 // ---- Files.
 
 /// What is wrong with a file, and where.
-fn at(file: &str, error: &Error) -> Failure {
-    failure(format!("{file}:{error}\n"))
+fn at(file: &Path, error: &Error) -> Failure {
+    failure(format!("{}:{error}\n", file.display()))
 }
 
-/// A file that cannot be read at all is wrong from its first character on.
-fn content(file: &str) -> Result<Vec<u8>, Failure> {
-    let read = fs::read(file);
-    read.map_err(|error| failure(format!("{file}:1:1: cannot be read: {error}\n")))
+/// What is wrong with a file as a whole, from its first character on.
+fn wrong(file: &Path, message: impl Display) -> Failure {
+    failure(format!("{}:1:1: {message}\n", file.display()))
 }
 
-/// The names that a readable file declares, and its program.
-fn readable(file: &str) -> Result<(Names, rules::term::Program), Failure> {
+fn content(file: &Path) -> Result<Vec<u8>, Failure> {
+    fs::read(file).map_err(|error| wrong(file, format!("cannot be read: {error}")))
+}
+
+/// What a readable file has, taken by `read`.
+fn readable<T>(file: &Path, read: fn(&str) -> Result<T, Error>) -> Result<T, Failure> {
     let content = content(file)?;
-    let read = notation::utf8(&content).and_then(notation::read);
+    if is_canonical(&content) {
+        return Err(wrong(file, "this is a canonical text, not a readable form"));
+    }
+    let read = notation::utf8(&content).and_then(read);
     read.map_err(|error| at(file, &error))
 }
 
-fn text(file: &str) -> Result<Vec<u8>, Failure> {
-    readable(file).map(|(_, program)| notation::text(&program))
+fn text(file: &Path) -> Result<Vec<u8>, Failure> {
+    readable(file, notation::to_text)
 }
 
-fn declared(file: &str) -> Result<Names, Failure> {
-    readable(file).map(|(names, _)| names)
+fn declared(file: &Path) -> Result<Names, Failure> {
+    readable(file, notation::names)
 }
 
-fn show(file: &str, names: &Names) -> Result<Vec<u8>, Failure> {
+fn show(file: &Path, names: &Names) -> Result<Vec<u8>, Failure> {
     let content = content(file)?;
     let form = notation::from_text_named(&content, names);
-    let form = form.map_err(|error| refused(file, &content, &error))?;
+    let form = form.map_err(|error| match is_readable(&content) {
+        true => wrong(file, "this is a readable form, not a canonical text"),
+        false => refused(file, &content, &error),
+    })?;
     Ok(form.into_bytes())
 }
 
-fn rule_set(file: &str) -> Result<RuleSet, Failure> {
-    let content = content(file)?;
-    RuleSet::of(&content).map_err(|error| refused(file, &content, &error))
+fn is_readable(content: &[u8]) -> bool {
+    let read = notation::utf8(content).and_then(notation::read);
+    !is_canonical(content) && !content.starts_with(b"()") && read.is_ok()
 }
 
-/// Where a text is wrong; of a canonical one also the library's own word, which a switch tells by its number.
-fn refused(file: &str, content: &[u8], error: &Error) -> Failure {
+/// Either form: a canonical text by the file's name, or where it begins like one.
+fn rule_set(file: &Path) -> Result<RuleSet, Failure> {
+    let content = content(file)?;
+    let by_name = file.extension().is_some_and(|end| end == "csexp");
+    if by_name || is_canonical(&content) {
+        return RuleSet::of_text(&content).map_err(|error| refused(file, &content, &error));
+    }
+    RuleSet::of(&content).map_err(|error| at(file, &error))
+}
+
+/// Where a canonical text is wrong, and the library's own word, which a switch tells by its number.
+fn refused(file: &Path, content: &[u8], error: &Error) -> Failure {
     let mut failure = at(file, error);
-    let read = mespindro::read(content, &mut [0; mespindro::TABLE]);
-    if let (true, Err(refusal)) = (is_canonical(content), read) {
+    if let Err(refusal) = mespindro::read(content, &mut [0; mespindro::TABLE]) {
         failure.message += &format!("  a switch refuses it: {refusal}\n");
     }
     failure
@@ -129,73 +167,91 @@ fn refused(file: &str, content: &[u8], error: &Error) -> Failure {
 // ---- Running.
 
 /// What `rules run` is asked for.
-struct Run<'a> {
-    file: &'a str,
-    page: Option<&'a str>,
+struct Asked {
+    file: PathBuf,
+    page: Option<PathBuf>,
     trace: bool,
 }
 
-impl<'a> Run<'a> {
-    fn of(words: &[&'a str]) -> Result<Run<'a>, Failure> {
-        let mut words = words.iter().copied();
+impl Asked {
+    fn of(words: &[OsString]) -> Result<Asked, Failure> {
+        let mut words = words.iter();
         let (mut file, mut page, mut trace) = (None, None, false);
+        let mut options = true;
         while let Some(word) = words.next() {
-            match word {
-                "--trace" => trace = true,
-                "--html" if page.is_none() => page = Some(words.next().ok_or_else(usage)?),
-                _ if file.is_none() && !word.starts_with("--") => file = Some(word),
+            let option = word.to_str().filter(|w| options && w.starts_with("--"));
+            match option {
+                Some("--") => options = false,
+                Some("--trace") => trace = true,
+                Some("--html") if page.is_none() => {
+                    let next = words
+                        .next()
+                        .filter(|w| !w.to_string_lossy().starts_with("--"));
+                    page = Some(PathBuf::from(next.ok_or_else(usage)?));
+                }
+                None if file.is_none() => file = Some(PathBuf::from(word)),
                 _ => return Err(usage()),
             }
         }
         let file = file.ok_or_else(usage)?;
-        Ok(Run { file, page, trace })
+        Ok(Asked { file, page, trace })
     }
-}
 
-fn run(asked: &Run) -> Result<(), Failure> {
-    let rule_set = rule_set(asked.file)?;
-    if let Some(page) = asked.page {
-        keeps_rule_set(asked.file, page)?;
-    }
-    let mut out = io::BufWriter::new(io::stdout().lock());
-    let mut done = Ok(());
-    let mut story = Story::new(&rule_set);
-    let width = width();
-    let end = run_seen(&rule_set, STEPS, &mut |step| {
-        if asked.trace && done.is_ok() {
-            let told = trace::step(step, &rule_set.names, width);
-            done = out.write_all(told.as_bytes());
+    fn run(&self) -> Result<(), Failure> {
+        let rule_set = rule_set(&self.file)?;
+        let page = match &self.page {
+            Some(page) => Some(self.begin_page(page)?),
+            None => None,
+        };
+        let mut out = io::BufWriter::new(io::stdout().lock());
+        let mut done = Ok(());
+        let mut story = Story::new(&rule_set);
+        let width = width();
+        let watched = self.trace || page.is_some();
+        let end = match watched {
+            false => run(&rule_set, STEPS),
+            true => run_seen(&rule_set, STEPS, &mut |step| {
+                if self.trace && done.is_ok() {
+                    let told = trace::step(step, &rule_set.names, width);
+                    done = out.write_all(told.as_bytes());
+                }
+                if page.is_some() {
+                    story.step(step, &rule_set.names);
+                }
+            }),
+        };
+        let end = end.map_err(|refusal| wrong(&self.file, refusal))?;
+        if let Some(file) = page {
+            self.end_page(file, &story, &end, &rule_set.names)?;
         }
-        if asked.page.is_some() {
-            story.step(step, &rule_set.names);
-        }
-    });
-    let end = end.map_err(|refusal| failure(format!("{}:1:1: {refusal}\n", asked.file)))?;
-    if let Some(file) = asked.page {
-        let page = page(asked.file, &story, &end, &rule_set.names);
-        fs::write(file, page).map_err(|error| failure(format!("{file}: {error}\n")))?;
+        let told = describe(&end, &rule_set.names);
+        let done = done.and_then(|()| out.write_all(told.as_bytes()));
+        written(done.and_then(|()| out.flush()))
     }
-    let told = describe(&end, &rule_set.names);
-    written(
-        done.and_then(|()| out.write_all(told.as_bytes()))
-            .and_then(|()| out.flush()),
-    )
-}
 
-/// The page must not be written over the rule set.
-fn keeps_rule_set(file: &str, page: &str) -> Result<(), Failure> {
-    match (fs::canonicalize(file), fs::canonicalize(page)) {
-        (Ok(file), Ok(page)) if file == page => Err(failure(format!(
-            "{}: is the rule set itself\n",
-            page.display()
-        ))),
-        _ => Ok(()),
+    /// Before anything is printed: a page that cannot be written is told at once.
+    fn begin_page(&self, page: &Path) -> Result<PageFile, Failure> {
+        let begun = PageFile::begin(page, &self.file);
+        begun.map_err(|error| failure(format!("{}: {error}\n", page.display())))
+    }
+
+    fn end_page(
+        &self,
+        file: PageFile,
+        story: &Story,
+        end: &End,
+        names: &Names,
+    ) -> Result<(), Failure> {
+        let place = file.place().display().to_string();
+        let title = self.file.display().to_string();
+        let done = file.end(&page(&title, story, end, names));
+        done.map_err(|error| failure(format!("{place}: {error}\n")))
     }
 }
 
-/// A screen's width, as the shell tells it.
+/// A screen's width, where it was told, but for one on which nothing could be read.
 fn width() -> usize {
     let columns = std::env::var("COLUMNS").ok();
-    let columns = columns.and_then(|columns| columns.parse().ok());
-    columns.filter(|columns| *columns >= 40).unwrap_or(80)
+    let columns = columns.and_then(|columns| columns.parse::<usize>().ok());
+    columns.unwrap_or(80).max(40)
 }

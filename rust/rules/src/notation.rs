@@ -23,10 +23,10 @@
 //! What is read here, in both directions, is what the library reads: numbers are in their ranges, every bound variable has its binder, the
 //! program has at most 2,048 nodes, and every thread is coherent.
 
+use std::collections::BTreeMap;
 use std::fmt;
 
-use crate::redex::Side;
-use crate::term::{Name, Program, Term};
+use crate::term::{each_term, Program, Term};
 
 mod canonical;
 mod coherent;
@@ -34,6 +34,9 @@ mod layout;
 mod line;
 mod piece;
 mod readable;
+
+pub use line::line;
+pub use piece::{rule, unknown};
 
 /// What is wrong with an input, and where: both counted from 1. A canonical text is one line, its column a byte.
 #[derive(Clone, Debug, PartialEq, Eq)]
@@ -52,35 +55,53 @@ impl fmt::Display for Error {
     }
 }
 
+impl std::error::Error for Error {}
+
 /// The names of constructors, one to one.
 #[derive(Clone, Debug, Default, PartialEq, Eq)]
-pub struct Names(Vec<(String, u16)>);
+pub struct Names {
+    numbers: BTreeMap<String, u16>,
+    names: BTreeMap<u16, String>,
+}
 
 impl Names {
     /// The number of a name.
     pub fn number(&self, name: &str) -> Option<u16> {
-        self.0.iter().find(|(n, _)| n == name).map(|(_, c)| *c)
+        self.numbers.get(name).copied()
     }
 
     /// The name of a number.
     pub fn name(&self, number: u16) -> Option<&str> {
-        self.0
-            .iter()
-            .find(|(_, c)| *c == number)
-            .map(|(n, _)| n.as_str())
+        self.names.get(&number).map(String::as_str)
     }
 
-    /// With `ok` for constructor 0, as people call it, where that is free.
-    pub fn with_ok(mut self) -> Names {
-        if self.number("ok").is_none() && self.name(0).is_none() {
+    /// With `ok` for constructor 0, as people call it, where neither a constructor nor a variable of the program is called so already.
+    pub fn with_ok(mut self, program: &[Term]) -> Names {
+        let free = self.number("ok").is_none() && self.name(0).is_none();
+        if free && !names_a_variable(program, "ok") {
             self.declare("ok", 0);
         }
         self
     }
 
     fn declare(&mut self, name: &str, number: u16) {
-        self.0.push((name.to_string(), number));
+        self.numbers.insert(name.to_string(), number);
+        self.names.insert(number, name.to_string());
     }
+}
+
+/// Whether a binder of the program has a name.
+fn names_a_variable(program: &[Term], name: &str) -> bool {
+    let mut found = false;
+    for term in program {
+        each_term(term, 0, &mut |part, _| match part {
+            Term::Abstraction(given, _) | Term::Allocated(_, given, _) | Term::Fresh(given, _) => {
+                found |= given.as_deref() == Some(name)
+            }
+            _ => {}
+        });
+    }
+    found
 }
 
 /// Readable form to canonical text.
@@ -96,6 +117,11 @@ pub fn read(readable: &str) -> Result<(Names, Program), Error> {
         None => Ok((names, program)),
         Some((closure, message)) => Err(closures[closure].error(message)),
     }
+}
+
+/// The names that a file declares, with or without a program behind them.
+pub fn names(readable: &str) -> Result<Names, Error> {
+    readable::names(readable)
 }
 
 /// The program of a readable form whose threads need not be coherent, to try what refuses them.
@@ -142,21 +168,6 @@ pub fn text(program: &[Term]) -> Vec<u8> {
 /// One term in readable form, its lines indented by so many blanks.
 pub fn show(term: &Term, names: &Names, indent: usize) -> String {
     layout::term(term, names, indent)
-}
-
-/// One term on one line of at most `width` characters, the way to the place that a step works on: what does not fit is left out.
-pub fn line(term: &Term, names: &Names, way: Option<&[Side]>, width: usize) -> String {
-    line::line(term, names, way, width)
-}
-
-/// An unknown's name, or its number.
-pub fn unknown(number: u16, name: &Name) -> String {
-    piece::unknown(number, name)
-}
-
-/// An allocated rule that is spoken of.
-pub fn rule(location: u16, name: &Name) -> String {
-    piece::rule(location, name)
 }
 
 /// A number of a plain decimal (no sign, no leading zero) up to `most`.

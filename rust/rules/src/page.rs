@@ -24,19 +24,39 @@ pub fn page(title: &str, story: &Story, end: &End, names: &Names) -> String {
     out += &threads(end, names);
     out += &rules(end);
     out += &picture::picture(story, end, names);
-    out + TERMS
+    out + &terms(names)
 }
 
 /// For those who read the page and have not written the rule set.
-const TERMS: &str = "<h2>How the terms are to be read</h2>\n<table>\n\
-<tr><td><code>port-7</code><td>a plain name, equal to itself alone\n\
-<tr><td><code>?port</code><td>an unknown: what it is has not been found out yet\n\
-<tr><td><code>(u A B)</code><td>a goal: A and B are to be equal; where they cannot be, the alternative dies\n\
-<tr><td><code>(g A B T)</code><td>T, once the conditions A and B are met; <code>ok</code> is one that was met\n\
-<tr><td><code>(a F X Y)</code><td>F with X and Y: a rule is given them, a plain name like <code>placement</code> keeps them\n\
-<tr><td><code>(l x (…))</code><td>a rule that asks for x; in the inner brackets are its alternatives. Made ready it is <code>(L 0 x (…))</code>\n\
-<tr><td><code>(n x T)</code><td>T with a new unknown x\n\
-<tr><td><code>…</code><td>something that was left out because the line was full\n</table>\n";
+fn terms(names: &Names) -> String {
+    let ok = escaped(names.name(0).unwrap_or("c0"));
+    let lines = [
+        ("port-7", "a plain name, equal to itself alone"),
+        ("?port", "an unknown: what it is has not been found out yet"),
+        (
+            "(u A B)",
+            "a goal: A and B are to be equal; where they cannot be, the alternative dies",
+        ),
+        ("(g A B T)", "T, once the conditions A and B are met"),
+        (ok.as_str(), "what is left of a goal that was met"),
+        (
+            "(a F X Y)",
+            "F with X and Y: a rule is given them, a plain name like placement keeps them",
+        ),
+        (
+            "(l x (…))",
+            "a rule that asks for x; in the inner brackets are its alternatives",
+        ),
+        ("(L 0 x (…))", "the same, made ready"),
+        ("(n x T)", "T with a new unknown x"),
+        ("…", "something that was left out because the line was full"),
+    ];
+    let mut out = "<h2>How the terms are to be read</h2>\n<table>\n".to_string();
+    for (term, meaning) in lines {
+        let _ = writeln!(out, "<tr><td><code>{term}</code><td>{meaning}");
+    }
+    out + "</table>\n"
+}
 
 /// Text as HTML shows it.
 fn escaped(text: &str) -> String {
@@ -90,7 +110,7 @@ fn threads(end: &End, names: &Names) -> String {
     let mut out = "<h2>What came of it</h2>\n".to_string();
     if end.threads.is_empty() {
         out +=
-            "<p>No alternative is left: every one has died, and the request cannot be met.</p>\n";
+            "<p>No alternative is left: every one was dropped, and the request cannot be met.</p>\n";
         return out;
     }
     if end.stop.reason == Reason::Ended {

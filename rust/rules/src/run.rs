@@ -2,18 +2,16 @@
 
 use mespindro::{Reason, Refusal, Standing, Stop, NODES, TABLE};
 
-use crate::follow::{program_of, Follow, Step};
+use crate::follow::{Follow, Step};
 use crate::notation::{self, rule, unknown, Error, Names};
-use crate::term::{closure_names, each_term, free_variables, Program, Term};
+use crate::term::{closure_names, each_term, free_variables, of_nodes, Program, Term};
 
 /// As many steps as the program on standard input makes.
 pub const STEPS: u32 = 10_000;
 
-/// A rule set: its canonical text, its program with the names of its variables, and the names for its constructors.
+/// A rule set: its program with the names of its variables, and the names for its constructors.
 pub struct RuleSet {
-    /// What the library reads.
-    pub text: Vec<u8>,
-    /// The same as a tree.
+    /// Its alternatives.
     pub program: Program,
     /// Those that the file declares, and `ok`.
     pub names: Names,
@@ -23,18 +21,23 @@ impl RuleSet {
     /// Takes a file's content: a canonical text if it begins like one, a readable form otherwise.
     pub fn of(content: &[u8]) -> Result<RuleSet, Error> {
         if is_canonical(content) {
-            return Ok(RuleSet {
-                text: content.to_vec(),
-                program: notation::program(content)?,
-                names: Names::default().with_ok(),
-            });
+            return RuleSet::of_text(content);
         }
         let (names, program) = notation::read(notation::utf8(content)?)?;
-        Ok(RuleSet {
-            text: notation::text(&program),
-            program,
-            names: names.with_ok(),
-        })
+        let names = names.with_ok(&program);
+        Ok(RuleSet { program, names })
+    }
+
+    /// Takes a canonical text.
+    pub fn of_text(text: &[u8]) -> Result<RuleSet, Error> {
+        let program = notation::program(text)?;
+        let names = Names::default().with_ok(&program);
+        Ok(RuleSet { program, names })
+    }
+
+    /// Its canonical text, which the library reads.
+    pub fn text(&self) -> Vec<u8> {
+        notation::text(&self.program)
     }
 }
 
@@ -66,9 +69,9 @@ pub fn run_seen(
     see: &mut dyn FnMut(&Step),
 ) -> Result<End, Refusal> {
     let mut table = vec![0; TABLE];
-    let count = mespindro::read(&rule_set.text, &mut table)?;
+    let count = mespindro::read(&rule_set.text(), &mut table)?;
     let stop = mespindro::run(&mut table, count, &mut vec![0; TABLE], steps)?;
-    let program = program_of(&table, stop.nodes);
+    let program = of_nodes(&table[..2 * stop.nodes]);
     let standings = (0..program.len()).map(|k| mespindro::standing(&table, stop.nodes, k));
     let standings = standings.collect::<Result<Vec<_>, Refusal>>()?;
     let mut follow = Follow::new(rule_set)?;
@@ -95,7 +98,7 @@ pub fn describe(end: &End, names: &Names) -> String {
     } = end.stop;
     let mut out = format!("{reason}, {steps} steps, {nodes} nodes\n  {counts}\n");
     if end.threads.is_empty() {
-        out += "no thread is left: every alternative has failed\n";
+        out += "no thread is left: every alternative was dropped\n";
     }
     for k in 0..end.threads.len() {
         let (standing, term) = &end.threads[k];
@@ -168,7 +171,7 @@ fn unfinished(end: &End, k: usize) -> String {
     let first = end.threads.iter().position(open);
     match (first, end.stop.reason) {
         (Some(first), _) if first < k => format!("it waits behind thread {first}"),
-        (_, Reason::Room) => format!("its next step needs more than {NODES} nodes"),
+        (_, Reason::Room) => format!("its next step would need more than {NODES} nodes"),
         (_, _) => format!("the {} steps are used", end.stop.steps),
     }
 }

@@ -3,6 +3,8 @@
 use std::collections::BTreeMap;
 use std::sync::Arc;
 
+use mespindro::kind;
+
 /// A program: the list of its alternatives.
 pub type Program = Vec<Term>;
 
@@ -43,6 +45,35 @@ impl Term {
         }
     }
 
+    /// Whether the two are one term but for names.
+    pub fn same(&self, other: &Term) -> bool {
+        match (self, other) {
+            (Bound(i), Bound(j)) | (Free(i, _), Free(j, _)) | (Constructor(i), Constructor(j)) => {
+                i == j
+            }
+            (Abstraction(_, p), Abstraction(_, q)) => same(p, q),
+            (Allocated(l, _, p), Allocated(m, _, q)) => l == m && same(p, q),
+            (Fresh(_, t), Fresh(_, s)) => t.same(s),
+            (Application(l, r), Application(m, s))
+            | (Guard(l, r), Guard(m, s))
+            | (Unification(l, r), Unification(m, s)) => l.same(m) && r.same(s),
+            _ => false,
+        }
+    }
+
+    /// How many nodes it has in a table.
+    pub fn nodes(&self) -> usize {
+        let mut nodes = 0;
+        each_term(self, 0, &mut |part, _| {
+            nodes += match part {
+                // the body's alternatives and its end
+                Abstraction(_, body) | Allocated(_, _, body) => 2 + body.len(),
+                _ => 1,
+            }
+        });
+        nodes
+    }
+
     /// A term of the same two-part kind, with other parts; itself where it has no two parts.
     pub fn with_parts(&self, left: Term, right: Term) -> Term {
         let (left, right) = (Box::new(left), Box::new(right));
@@ -53,6 +84,58 @@ impl Term {
             other => other.clone(),
         }
     }
+}
+
+/// Whether two programs are one but for names.
+pub fn same(program: &[Term], other: &[Term]) -> bool {
+    let mut pairs = program.iter().zip(other);
+    program.len() == other.len() && pairs.all(|(t, s)| t.same(s))
+}
+
+/// The alternatives in a part of the library's own table, without the end of their list.
+pub fn of_nodes(nodes: &[u16]) -> Program {
+    take_alternatives(&mut &*nodes)
+}
+
+/// Takes a term off the front.
+fn take(rest: &mut &[u16]) -> Term {
+    let [of, number, behind @ ..] = *rest else {
+        unreachable!("a table of the library's holds whole programs");
+    };
+    *rest = behind;
+    match *of {
+        kind::BOUND => Bound(*number),
+        kind::FREE => Free(*number, None),
+        kind::CONSTRUCTOR => Constructor(*number),
+        kind::ABSTRACTION => Abstraction(None, take_program(rest)),
+        kind::ALLOCATED => Allocated(*number, None, take_program(rest)),
+        kind::FRESH => Fresh(None, Box::new(take(rest))),
+        of => {
+            let left = Box::new(take(rest));
+            let right = Box::new(take(rest));
+            match of {
+                kind::APPLICATION => Application(left, right),
+                kind::GUARD => Guard(left, right),
+                _ => Unification(left, right),
+            }
+        }
+    }
+}
+
+fn take_alternatives(rest: &mut &[u16]) -> Program {
+    let mut program = Vec::new();
+    while let [kind::ALTERNATIVE, _, term @ ..] = *rest {
+        *rest = term;
+        program.push(take(rest));
+    }
+    program
+}
+
+/// Takes a list of alternatives and its end off the front.
+fn take_program(rest: &mut &[u16]) -> Program {
+    let program = take_alternatives(rest);
+    *rest = &rest[2..];
+    program
 }
 
 /// Calls `see` with each term inside a term, itself included, in preorder, and the binders between the two.

@@ -6,7 +6,7 @@ use crate::follow::Step;
 use crate::notation::{line, rule, unknown, Names};
 use crate::redex::part_at;
 use crate::term::{each_term, free_variables, Term};
-use crate::why::why;
+use crate::why::told;
 
 /// One step, on lines of at most `width` characters.
 pub fn step(step: &Step, names: &Names, width: usize) -> String {
@@ -22,7 +22,7 @@ pub fn step(step: &Step, names: &Names, width: usize) -> String {
     };
     shown("  before    ".to_string(), &step.before);
     for (k, thread) in step.after.iter().enumerate() {
-        shown(format!("  {:<10}", label(step, k)), thread);
+        shown(format!("  {:<9} ", label(step, k)), thread);
     }
     if step.after.is_empty() {
         out += "  dropped\n";
@@ -59,19 +59,7 @@ pub fn what(step: &Step, names: &Names, width: usize) -> String {
             Term::Constructor(0) => "a condition is met".to_string(),
             _ => format!("a condition has come to {}", shown(condition)),
         },
-        (Rule::Unif, Term::Unification(left, right)) => match step.found.as_slice() {
-            [] => format!("{} is {}", shown(left), shown(right)),
-            found => {
-                let found = found
-                    .iter()
-                    .map(|(unknown, value)| format!("{} is {}", shown(unknown), shown(value)));
-                found.collect::<Vec<String>>().join(", ")
-            }
-        },
-        (Rule::Fail, Term::Unification(left, right)) => match why(left, right) {
-            Some(why) => why.words(names, width),
-            None => format!("{} cannot be {}", shown(left), shown(right)),
-        },
+        (_, Term::Unification(left, right)) => told(left, right, names, width),
         (other, _) => other.to_string(),
     }
 }

@@ -206,7 +206,7 @@ fn bad_input_of_text_and_show() {
     let cases: [(&[&str], &str); 5] = [
         (
             &["text", "two-tenants.csexp"],
-            "two-tenants.csexp:1:3: a tag",
+            "two-tenants.csexp:1:1: this is a canonical text, not a readable form\n",
         ),
         (
             &["text", "no-such-file"],
@@ -214,7 +214,7 @@ fn bad_input_of_text_and_show() {
         ),
         (
             &["show", "two-tenants.rules"],
-            "two-tenants.rules:1:1: '(' must",
+            "two-tenants.rules:1:1: this is a readable form, not a canonical text\n",
         ),
         (
             &["show", "two-tenants.csexp", "no-such-file"],
@@ -222,7 +222,7 @@ fn bad_input_of_text_and_show() {
         ),
         (
             &["show", "two-tenants.csexp", "leaf-48.csexp"],
-            "leaf-48.csexp:1:3: a tag",
+            "leaf-48.csexp:1:1: this is a canonical text, not a readable form\n",
         ),
     ];
     for (arguments, message) in cases {
@@ -231,26 +231,125 @@ fn bad_input_of_text_and_show() {
     }
 }
 
-/// A page that cannot be written, or that would be written over the rule set.
+/// A file's name says that it is a canonical text, where its content could be either.
+#[test]
+fn the_empty_program() {
+    let folder = own("empty");
+    let ended = "ended, 0 steps, 1 nodes";
+    for (name, content, accepted) in [
+        ("empty.csexp", "()", true),
+        ("newline.csexp", "()\n", false),
+        ("nothing.csexp", "", false),
+        ("newline.rules", "\u{feff}()\r\n", true),
+    ] {
+        fs::write(folder.join(name), content).unwrap();
+        if accepted {
+            let output = rules(&folder, &["run", name]);
+            let printed = String::from_utf8(output.stdout).unwrap();
+            assert!(printed.starts_with(ended), "{name}: {printed}");
+        } else {
+            let said = complaint(&folder, &["run", name], 1);
+            assert!(said.contains("not canonical (3)"), "{said}");
+        }
+    }
+}
+
+/// Declarations alone are names too.
+#[test]
+fn names_alone() {
+    let folder = own("names");
+    fs::write(folder.join("set.csexp"), "((1:c1:5))").unwrap();
+    fs::write(folder.join("names"), "= red c5 ; the first tenant\n").unwrap();
+    let shown = rules(&folder, &["show", "set.csexp", "names"]);
+    assert_eq!(String::from_utf8_lossy(&shown.stdout), "= red c5\n(red)\n");
+}
+
+/// A page that cannot be written is told before anything is printed, and no page takes the place of anything but a page.
 #[test]
 fn bad_page() {
     let folder = own("bad-page");
     let set = file("two-tenants.rules");
-    fs::write(folder.join("set.rules"), &set).unwrap();
-    let said = complaint(
-        &folder,
-        &["run", "--html", "none/page.html", "set.rules"],
-        1,
-    );
-    assert!(said.starts_with("none/page.html: "), "{said}");
-    let said = complaint(&folder, &["run", "--html", "./set.rules", "set.rules"], 1);
-    assert!(said.ends_with("is the rule set itself\n"), "{said}");
-    assert_eq!(fs::read_to_string(folder.join("set.rules")).unwrap(), set);
+    for name in ["set.rules", "other.rules"] {
+        fs::write(folder.join(name), &set).unwrap();
+    }
+    fs::hard_link(folder.join("set.rules"), folder.join("link")).unwrap();
+    std::os::unix::fs::symlink("set.rules", folder.join("soft-link")).unwrap();
+    fs::create_dir(folder.join("folder")).unwrap();
+    let cases = [
+        ("none/page.html", ""),
+        ("folder", ""),
+        ("./set.rules", "is the rule set itself\n"),
+        ("link", "is the rule set itself\n"),
+        ("soft-link", "is the rule set itself\n"),
+        ("other.rules", "is there and is no page\n"),
+    ];
+    for (page, message) in cases {
+        let arguments = ["run", "--trace", "--html", page, "set.rules"];
+        let said = complaint(&folder, &arguments, 1);
+        assert!(said.starts_with(page) && said.ends_with(message), "{said}");
+    }
+    for name in ["set.rules", "other.rules"] {
+        assert_eq!(fs::read_to_string(folder.join(name)).unwrap(), set);
+    }
+    assert_eq!(fs::read_dir(&folder).unwrap().count(), 5);
+}
+
+/// A page is written again over itself, and through a link or into a device.
+#[test]
+fn pages_again() {
+    let folder = own("again");
+    fs::write(folder.join("set.rules"), file("two-tenants.rules")).unwrap();
+    std::os::unix::fs::symlink("page.html", folder.join("link.html")).unwrap();
+    for page in ["page.html", "page.html", "link.html", "/dev/null"] {
+        let output = rules(&folder, &["run", "--html", page, "set.rules"]);
+        assert!(output.status.success(), "{page}: {output:?}");
+    }
+    let page = fs::read_to_string(folder.join("page.html")).unwrap();
+    assert!(page.ends_with("</table>\n"), "{page}");
+    assert_eq!(fs::read_dir(&folder).unwrap().count(), 3);
+}
+
+/// A screen's width: as it is told, but at least 40.
+#[test]
+fn columns() {
+    for (told, width) in [
+        ("120", 120),
+        ("60", 60),
+        ("40", 40),
+        ("7", 40),
+        ("wide", 80),
+    ] {
+        let mut command = Command::new(env!("CARGO_BIN_EXE_rules"));
+        let command = command.args(["run", "--trace", "leaf-48.rules"]);
+        let output = command.current_dir(folder()).env("COLUMNS", told).output();
+        let printed = String::from_utf8(output.unwrap().stdout).unwrap();
+        let steps = printed.strip_suffix(&file("leaf-48.end")).unwrap();
+        let widest = steps.lines().map(|line| line.chars().count()).max();
+        assert!(
+            widest <= Some(width) && widest > Some(width - 8),
+            "{told}: {widest:?}"
+        );
+    }
+}
+
+/// A name that is no text is a name all the same.
+#[test]
+fn a_name_of_bytes() {
+    use std::os::unix::ffi::OsStrExt;
+    let name = std::ffi::OsStr::from_bytes(b"\xff.rules");
+    let folder = own("bytes");
+    let mut command = Command::new(env!("CARGO_BIN_EXE_rules"));
+    let command = command.arg("run").arg(name).current_dir(&folder);
+    assert_eq!(command.output().unwrap().status.code(), Some(1));
+    fs::write(folder.join(name), "()").unwrap();
+    assert!(command.output().unwrap().status.success());
 }
 
 #[test]
 fn bad_words() {
-    let cases: [&[&str]; 8] = [
+    let cases: [&[&str]; 10] = [
+        &["run", "--html", "--trace", "two-tenants.rules"],
+        &["run", "--", "--trace", "two-tenants.rules"],
         &[],
         &["walk"],
         &["text"],
@@ -264,6 +363,15 @@ fn bad_words() {
         let said = complaint(&folder(), arguments, 2);
         assert!(said.starts_with("rules text FILE"), "{said}");
     }
-    assert!(printed(&["--help"]).starts_with("rules text FILE"));
+    for help in [
+        &["--help"][..],
+        &["-h"],
+        &["help"],
+        &["run", "--help"],
+        &["text", "-h"],
+    ] {
+        assert!(printed(help).starts_with("rules text FILE"));
+    }
+    printed(&["run", "--", "two-tenants.rules"]);
     assert!(printed(&["--version"]).starts_with("rules "));
 }

@@ -173,6 +173,12 @@ fn short_forms() {
     println!("{} short forms", cases.len());
 }
 
+const NO_NAME_C1: &str = "c1 cannot be a name: a letter and then letters, digits and '-', no tag (l, L, n, u, a, g), no xN, bN or cN";
+const NO_NAME_A: &str = "a cannot be a name: a letter and then letters, digits and '-', no tag (l, L, n, u, a, g), no xN, bN or cN";
+const NO_NAME_PORT_1: &str = "port_1 cannot be a name: a letter and then letters, digits and '-', no tag (l, L, n, u, a, g), no xN, bN or cN";
+const NO_TERM_G: &str =
+    "g is a tag and stands behind a bracket of its own; a list of alternatives has brackets too";
+
 #[test]
 fn errors_of_the_readable_form() {
     let cases = [
@@ -182,7 +188,12 @@ fn errors_of_the_readable_form() {
             1,
             "a program's '(' must stand here, and the input ends",
         ),
-        ("(c1\n", 2, 1, "a term must stand here, and the input ends"),
+        (
+            "(c1\n",
+            2,
+            1,
+            "a term or ')' must stand here, and the input ends",
+        ),
         ("(c1))", 1, 5, "nothing may stand behind the program"),
         (
             "(c1) ; fine\n c2",
@@ -213,7 +224,10 @@ fn errors_of_the_readable_form() {
             "cN goes from 0 to 65535, without leading zeros",
         ),
         ("(c)", 1, 2, "c is not declared"),
-        ("((l c1))", 1, 5, "a name must stand here"),
+        ("((l c1))", 1, 5, NO_NAME_C1),
+        ("= port_1 c5001 (c1)", 1, 3, NO_NAME_PORT_1),
+        ("((l a (a)))", 1, 5, NO_NAME_A),
+        ("((l it (g (u it c1) c2)))", 1, 9, NO_TERM_G),
         ("((l it c1))", 1, 8, "a program's '(' must stand here"),
         (
             "((L 2048 ()))",
@@ -234,8 +248,8 @@ fn errors_of_the_readable_form() {
         ("= red c1 = red c2 ()", 1, 12, "red is already a name here"),
         ("= red c1 = rot c1 ()", 1, 16, "c1 is already called red"),
         ("= red x1 ()", 1, 7, "a constructor cN must stand here"),
-        ("= a c1 ()", 1, 3, "a name must stand here"),
-        ("= re_d c1 ()", 1, 3, "a name must stand here"),
+        ("= a c1 ()", 1, 3, NO_NAME_A),
+        ("= (c1)", 1, 3, "a name must stand here"),
         (
             "= red c1 ((n red red))",
             1,

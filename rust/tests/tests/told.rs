@@ -18,7 +18,8 @@ use rules::page::page;
 use rules::run::{run, run_seen, RuleSet};
 use rules::story::{Fate, Story};
 use rules::term::{each_term, Term};
-use rules::{trace, why};
+use rules::trace;
+use rules::why::{goal, Goal};
 
 /// How many random programs are followed, and for how many steps each.
 const PROGRAMS: usize = 1000;
@@ -26,11 +27,9 @@ const STEPS: u32 = 60;
 
 /// A program with a name for every binder.
 fn with_names(program: &Program) -> RuleSet {
-    let text = write_text(program);
-    let mut program = notation::program(&text).unwrap();
+    let mut program = notation::program(&write_text(program)).unwrap();
     program.iter_mut().for_each(name);
     RuleSet {
-        text,
         program,
         names: Names::default(),
     }
@@ -125,29 +124,107 @@ fn names_of_unknowns() {
     assert!(unknowns > 1000);
 }
 
-/// A clash is found exactly where the library fails, and what unknowns are found to be makes the two values equal.
+/// A clash is found exactly where the library fails, and what unknowns are found to be makes the two values equal elsewhere.
 #[test]
-fn why_it_failed() {
-    let (mut failed, mut met) = (0, 0);
+fn what_a_goal_finds() {
+    let (mut failed, mut met, mut found) = (0, 0, 0);
     on_big_stack(|| {
         each_step(13, &mut |_, _, told| {
-            if let Term::Unification(left, right) = told.place() {
-                let clash = why::why(left, right);
-                match told.rule {
-                    Rule::Fail => {
-                        assert!(clash.is_some(), "{left:?} {right:?}");
-                        failed += 1;
-                    }
-                    _ => {
-                        assert!(clash.is_none(), "{left:?} {right:?}");
-                        met += 1;
-                    }
+            let Term::Unification(left, right) = told.place() else {
+                return;
+            };
+            match goal(left, right) {
+                Goal::Met(values) => {
+                    assert_eq!(told.rule, Rule::Unif);
+                    let sides = [left, right].map(|side| put_into(side, &values));
+                    assert!(sides[0].same(&sides[1]), "{sides:?}");
+                    met += 1;
+                    found += values.len();
                 }
+                Goal::Differ(..) | Goal::Inside(..) => {
+                    assert_eq!(told.rule, Rule::Fail);
+                    failed += 1;
+                }
+                Goal::Unknown => panic!("too many pairs: {left:?} {right:?}"),
             }
         })
     });
-    println!("{failed} goals failed, {met} were met");
-    assert!(failed > 500 && met > 500);
+    println!("{failed} goals failed, {met} were met, with {found} unknowns found");
+    assert!(failed > 500 && met > 500 && found > 500);
+}
+
+/// A value with what its unknowns were found to be; bodies are left as they are, equal where their locations are.
+fn put_into(value: &Term, found: &[(&Term, &Term)]) -> Term {
+    match value {
+        Term::Free(x, _) => {
+            let known = found
+                .iter()
+                .find(|(unknown, _)| matches!(unknown, Term::Free(y, _) if x == y));
+            known.map_or_else(|| value.clone(), |(_, value)| put_into(value, found))
+        }
+        Term::Application(l, r) => value.with_parts(put_into(l, found), put_into(r, found)),
+        other => other.clone(),
+    }
+}
+
+/// The sentences on goals, word for word.
+#[test]
+fn goals_in_words() {
+    let cases = [
+        ("((n port (u port c5)))", "?port is c5"),
+        ("((u c5 c5))", "c5 is c5"),
+        ("((u c5 c6))", "c5 is not c6"),
+        ("((u (a c1 c2) c6))", "(a c1 c2) is not c6"),
+        ("((u (L 0 it (it)) c6))", "the rule L0 on it is not c6"),
+        (
+            "((u (L 0 (c1)) (L 1 (c1))))",
+            "the rule L0 is not the rule L1",
+        ),
+        (
+            "((n p (n port (g (u (a c1 p c5) (a c1 c2 port)) port))))",
+            "?p is c2, ?port is c5",
+        ),
+        (
+            "((n port (n vlan (u (a c1 port vlan) (a c1 (a c2 vlan) (a c2 port))))))",
+            "?vlan would stand inside itself, in (a c2 (a c2 ?vlan))",
+        ),
+    ];
+    for (readable, said) in cases {
+        let rule_set = RuleSet::of(readable.as_bytes()).unwrap();
+        let mut follow = Follow::new(&rule_set).unwrap();
+        let steps = std::iter::from_fn(|| follow.step().ok());
+        let mut goals = steps.filter(|step| matches!(step.rule, Rule::Unif | Rule::Fail));
+        let told = goals
+            .next()
+            .map(|step| trace::what(&step, &rule_set.names, 60));
+        assert_eq!(told.as_deref(), Some(said), "{readable}");
+    }
+}
+
+/// Two towers in which each floor stands twice on the one below: 2 to the 40 pairs, if each were asked for.
+#[test]
+fn a_goal_of_shared_parts() {
+    let tower = |letter: char| {
+        let floors =
+            (1..=20).map(|k| format!("(u {letter}{k} (a c1 {letter}{0} {letter}{0}))", k - 1));
+        floors.collect::<Vec<String>>().join(" ")
+    };
+    let all: Vec<String> = (0..=20)
+        .flat_map(|k| [format!("p{k}"), format!("q{k}")])
+        .collect();
+    let binders: String = all.iter().map(|name| format!("(n {name} ")).collect();
+    let goal = format!(
+        "(g {} {} (u p0 c1) (u q0 c2) (u p20 q20) c9)",
+        tower('p'),
+        tower('q')
+    );
+    let readable = format!("({binders}{goal}{})", ")".repeat(all.len()));
+    let rule_set = RuleSet::of(readable.as_bytes()).unwrap();
+    let mut follow = Follow::new(&rule_set).unwrap();
+    while let Ok(step) = follow.step() {
+        let told = trace::step(&step, &rule_set.names, 80);
+        assert!(told.lines().all(|line| line.chars().count() <= 80));
+    }
 }
 
 /// Lines are no wider than asked for, show the place, and leave nothing out where all of it fits.
@@ -260,7 +337,7 @@ fn what_is_missing() {
             "((n p (n q (n r (a c1 (a p r) (a q p) (a p q))))))",
             "thread 0: stuck, ?p and ?q are not decided, but are used as rules\n",
         ),
-        ("((u c1 c2))", "no thread is left: every alternative has failed\n"),
+        ("((u c1 c2))", "no thread is left: every alternative was dropped\n"),
         (
             "((a (l it ((a it it))) (l it ((a it it)))) (n it it))",
             "thread 0: open, the 100 steps are used\n",
@@ -287,6 +364,38 @@ fn unknowns_of_one_name() {
     assert_eq!(end.threads[0].0, Standing::Partial);
     let shown = show(&end.threads[0].1, &rule_set.names, 0);
     assert_eq!(shown, "(a c3 ?it ?it.2)");
+}
+
+/// An unknown without a name is called as the one that it stands for.
+#[test]
+fn a_name_outlives_its_unknown() {
+    for readable in [
+        "((n (n port (g (u b1 port) (a c3 port)))))",
+        "((n (n port (g (u port b1) (a c3 b1)))))",
+        "((n port (g (u x0 port) (a c3 x0))))",
+    ] {
+        let rule_set = RuleSet::of(readable.as_bytes()).unwrap();
+        let end = run(&rule_set, 100).unwrap();
+        let shown = show(&end.threads[0].1, &rule_set.names, 0);
+        assert_eq!(shown, "(a c3 ?port)", "{readable}");
+    }
+}
+
+/// Constructor 0 is called ok where nothing else is.
+#[test]
+fn ok_says_one_thing() {
+    for (readable, shown) in [
+        ("(c0)", "ok"),
+        ("((1:c1:0))", "ok"),
+        ("= yes c0 (c0)", "yes"),
+        ("= ok c5 (c0)", "c0"),
+        ("((a (l ok (c0)) c1))", "c0"),
+    ] {
+        let rule_set = RuleSet::of(readable.as_bytes()).unwrap();
+        let end = run(&rule_set, 100).unwrap();
+        let told = show(&end.threads[0].1, &rule_set.names, 0);
+        assert_eq!(told, shown, "{readable}");
+    }
 }
 
 /// The program that a run leaves has no more than the library's numbers: with the names taken off it is the evaluator's.

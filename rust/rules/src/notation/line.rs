@@ -20,19 +20,21 @@ struct Detail {
 const ALL: usize = usize::MAX;
 
 /// From everything to nearly nothing.
-const DETAILS: [Detail; 14] = [
+const DETAILS: [Detail; 16] = [
     detail(ALL, ALL, ALL),
     detail(6, 7, ALL),
     detail(5, 6, ALL),
     detail(4, 5, ALL),
+    detail(4, 5, 3),
     detail(3, 4, ALL),
+    detail(3, 4, 3),
+    detail(3, 4, 2),
     detail(2, 3, ALL),
     detail(2, 3, 3),
-    detail(2, 3, 2),
+    detail(3, 4, 1),
     detail(2, 3, 1),
     detail(1, 3, 2),
     detail(1, 2, 1),
-    detail(0, 3, 1),
     detail(0, 2, 1),
     detail(0, 1, 1),
 ];

@@ -3,29 +3,37 @@
 use std::sync::Arc;
 
 use super::{
-    plain_decimal, too_many, Error, Name, Names, Nodes, Program, Term, MOST_CONSTRUCTOR, MOST_OTHER,
+    plain_decimal, too_many, Error, Names, Nodes, Program, Term, MOST_CONSTRUCTOR, MOST_OTHER,
 };
+use crate::term::Name;
 
 const TAGS: [&str; 6] = ["l", "L", "n", "u", "a", "g"];
 
+/// Of a word that is no name, and of a tag in a term's place: what was most likely meant.
+const NAME: &str =
+    "a letter and then letters, digits and '-', no tag (l, L, n, u, a, g), no xN, bN or cN";
+const TAG: &str =
+    "is a tag and stands behind a bracket of its own; a list of alternatives has brackets too";
+
 /// The declared names, the program, and the tag of each allocated abstraction.
 pub fn read(readable: &str) -> Result<(Names, Program, Vec<Token<'_>>), Error> {
-    let mut reader = Reader {
-        tokens: tokens(readable),
-        place: 0,
-        names: Names::default(),
-        binders: Vec::new(),
-        nodes: Nodes::default(),
-        closures: Vec::new(),
-    };
-    while reader.next_is("=") {
-        reader.declaration()?;
-    }
+    let mut reader = Reader::new(readable);
+    reader.declarations()?;
     let program = reader.program()?;
-    if !reader.token().word.is_empty() {
+    if !reader.next_is("") {
         return Err(reader.error("nothing may stand behind the program"));
     }
     Ok((reader.names, program, reader.closures))
+}
+
+/// The declared names of a form that may have no program.
+pub fn names(readable: &str) -> Result<Names, Error> {
+    let mut reader = Reader::new(readable);
+    reader.declarations()?;
+    match reader.next_is("") {
+        true => Ok(reader.names),
+        false => read(readable).map(|(names, _, _)| names),
+    }
 }
 
 /// A word or a bracket and where it begins; the empty word stands at the end of the input.
@@ -51,47 +59,58 @@ impl Token<'_> {
     }
 }
 
-fn tokens(readable: &str) -> Vec<Token<'_>> {
-    let mut found = Vec::new();
-    let mut last = 1;
-    for (index, whole) in readable.split('\n').enumerate() {
-        last = index + 1;
-        let line = whole.split(';').next().unwrap_or("");
-        let mut start = 0;
-        while let Some((begin, length)) = next_word(line, start) {
-            found.push(Token {
-                word: &line[begin..begin + length],
-                line: last,
-                column: line[..begin].chars().count() + 1,
-            });
-            start = begin + length;
-        }
-    }
-    let column = readable.rsplit('\n').next().unwrap_or("").chars().count() + 1;
-    found.push(Token {
-        word: "",
-        line: last,
-        column,
-    });
-    found
+/// The words that have not been taken yet, and where they begin.
+struct Words<'a> {
+    rest: &'a str,
+    line: usize,
+    column: usize,
 }
 
-/// Where the next word or bracket of a line begins, and its length.
-fn next_word(line: &str, start: usize) -> Option<(usize, usize)> {
-    let rest = &line[start..];
-    let begin = rest.find(|c: char| !c.is_whitespace())?;
-    let word = &rest[begin..];
-    let length = match word.find(|c: char| c.is_whitespace() || c == '(' || c == ')') {
-        Some(0) => 1,
-        Some(n) => n,
-        None => word.len(),
-    };
-    Some((start + begin, length))
+impl<'a> Words<'a> {
+    /// Takes the next word or bracket.
+    fn next(&mut self) -> Token<'a> {
+        while self.skip() {}
+        let (line, column) = (self.line, self.column);
+        let ends = |c: char| c.is_whitespace() || matches!(c, '(' | ')' | ';');
+        let length = match self.rest.find(ends) {
+            Some(0) => 1,
+            Some(length) => length,
+            None => self.rest.len(),
+        };
+        let word = self.pass(length);
+        Token { word, line, column }
+    }
+
+    /// Passes a blank, a line's end or a comment; false where there is none.
+    fn skip(&mut self) -> bool {
+        let bytes = match self.rest.chars().next() {
+            Some('\n') => {
+                self.rest = &self.rest[1..];
+                (self.line, self.column) = (self.line + 1, 1);
+                return true;
+            }
+            Some(';') => self.rest.find('\n').unwrap_or(self.rest.len()),
+            Some(blank) if blank.is_whitespace() => blank.len_utf8(),
+            _ => return false,
+        };
+        self.pass(bytes);
+        true
+    }
+
+    /// Passes so many bytes of the line.
+    fn pass(&mut self, bytes: usize) -> &'a str {
+        let (passed, rest) = self.rest.split_at(bytes);
+        self.rest = rest;
+        self.column += passed.chars().count();
+        passed
+    }
 }
 
 struct Reader<'a> {
-    tokens: Vec<Token<'a>>,
-    place: usize,
+    words: Words<'a>,
+    /// The next word, and the one behind it.
+    token: Token<'a>,
+    behind: Token<'a>,
     names: Names,
     /// The binders around the place, the innermost last, with their names.
     binders: Vec<Option<&'a str>>,
@@ -101,29 +120,43 @@ struct Reader<'a> {
 }
 
 impl<'a> Reader<'a> {
-    fn token(&self) -> Token<'a> {
-        self.tokens[self.place.min(self.tokens.len() - 1)]
+    fn new(readable: &'a str) -> Reader<'a> {
+        let mut words = Words {
+            rest: readable,
+            line: 1,
+            column: 1,
+        };
+        Reader {
+            token: words.next(),
+            behind: words.next(),
+            words,
+            names: Names::default(),
+            binders: Vec::new(),
+            nodes: Nodes::default(),
+            closures: Vec::new(),
+        }
     }
 
     fn take(&mut self) -> Token<'a> {
-        let token = self.token();
-        self.place += 1;
+        let token = self.token;
+        self.token = self.behind;
+        self.behind = self.words.next();
         token
     }
 
     fn next_is(&self, word: &str) -> bool {
-        self.token().word == word
+        self.token.word == word
     }
 
     fn error(&self, message: impl Into<String>) -> Error {
-        self.token().error(message)
+        self.token.error(message)
     }
 
     fn expect(&mut self, word: &str, what: &str) -> Result<(), Error> {
         if !self.next_is(word) {
             return Err(self.error(format!("{what} must stand here")));
         }
-        self.place += 1;
+        self.take();
         Ok(())
     }
 
@@ -135,8 +168,15 @@ impl<'a> Reader<'a> {
         }
     }
 
+    fn declarations(&mut self) -> Result<(), Error> {
+        while self.next_is("=") {
+            self.declaration()?;
+        }
+        Ok(())
+    }
+
     fn declaration(&mut self) -> Result<(), Error> {
-        self.place += 1;
+        self.take();
         let name = self.new_name()?;
         let token = self.take();
         let number = leaf(token)?.and_then(|term| match term {
@@ -156,15 +196,18 @@ impl<'a> Reader<'a> {
 
     /// A name that is not in use yet.
     fn new_name(&mut self) -> Result<&'a str, Error> {
-        let token = self.token();
-        if !is_name(token.word) {
+        let word = self.token.word;
+        if matches!(word, "" | "(" | ")") {
             return Err(self.error("a name must stand here"));
         }
-        if self.names.number(token.word).is_some() || self.binders.contains(&Some(token.word)) {
-            return Err(self.error(format!("{} is already a name here", token.word)));
+        if !is_name(word) {
+            return Err(self.error(format!("{word} cannot be a name: {NAME}")));
         }
-        self.place += 1;
-        Ok(token.word)
+        if self.names.number(word).is_some() || self.binders.contains(&Some(word)) {
+            return Err(self.error(format!("{word} is already a name here")));
+        }
+        self.take();
+        Ok(word)
     }
 
     fn program(&mut self) -> Result<Program, Error> {
@@ -175,7 +218,7 @@ impl<'a> Reader<'a> {
             self.count(1)?;
             alternatives.push(self.term()?);
         }
-        self.place += 1;
+        self.take();
         Ok(alternatives)
     }
 
@@ -223,6 +266,8 @@ impl<'a> Reader<'a> {
         match self.names.number(word) {
             Some(number) => Ok(Term::Constructor(number)),
             None if is_name(word) => Err(token.error(format!("{word} is not declared"))),
+            None if TAGS.contains(&word) => Err(token.error(format!("{word} {TAG}"))),
+            None if word.is_empty() => Err(token.error("a term or ')' must stand here")),
             None => Err(token.error("a term must stand here")),
         }
     }
@@ -236,7 +281,7 @@ impl<'a> Reader<'a> {
 
     /// An abstraction's body, after its variable's name if it has one.
     fn body(&mut self) -> Result<(Name, Program), Error> {
-        let name = match self.token().word {
+        let name = match self.token.word {
             "(" | ")" | "" => None,
             _ => Some(self.new_name()?),
         };
@@ -248,8 +293,7 @@ impl<'a> Reader<'a> {
 
     /// A fresh variable and its term: a word with something behind it is the variable's name.
     fn fresh(&mut self) -> Result<Term, Error> {
-        let behind = self.tokens.get(self.place + 1).map(|token| token.word);
-        let named = !matches!(self.token().word, "(" | ")" | "") && behind != Some(")");
+        let named = !matches!(self.token.word, "(" | ")" | "") && self.behind.word != ")";
         let name = if named { Some(self.new_name()?) } else { None };
         self.binders.push(name);
         let term = self.term();

@@ -19,6 +19,13 @@ const MARGIN: f64 = 10.0;
 const OWN: usize = 60;
 const TERM: usize = 64;
 
+/// The colour of what is not worked.
+const GREY: &str = "#9aa5b1";
+
+/// How far in a fork's own rows stand.
+const STEP_IN: f64 = 6.0;
+const INDENT: usize = 14;
+
 /// So many dead alternatives in a row are folded.
 const FOLDED: usize = 4;
 
@@ -95,19 +102,20 @@ impl<'s> Painter<'s> {
             let dead = rest.iter().take_while(dead).count();
             let (next, behind) = rest.split_at(dead.max(1));
             let goes_on = !behind.is_empty();
-            if dead >= FOLDED {
-                self.out += "<details><summary>";
-                self.folded(next, fork.map(|x| Hang { x, goes_on }));
-                self.out += "</summary>\n";
-            }
-            for (place, id) in next.iter().enumerate() {
-                let goes_on = goes_on || place + 1 < next.len();
-                self.alternative(*id, fork.map(|x| Hang { x, goes_on }));
-            }
-            if dead >= FOLDED {
-                self.out += "</details>\n";
+            let hang = fork.map(|x| Hang { x, goes_on });
+            match dead >= FOLDED {
+                true => self.folded(next, hang),
+                false => self.each(next, fork, goes_on),
             }
             rest = behind;
+        }
+    }
+
+    /// Alternatives of one fork, with or without others behind them.
+    fn each(&mut self, ids: &[usize], fork: Option<f64>, behind: bool) {
+        for (place, id) in ids.iter().enumerate() {
+            let goes_on = behind || place + 1 < ids.len();
+            self.alternative(*id, fork.map(|x| Hang { x, goes_on }));
         }
     }
 
@@ -117,14 +125,11 @@ impl<'s> Painter<'s> {
         let own = escaped(&line(&branch.own, self.names, None, OWN));
         let fate = self.fate(id);
         let spent = spent(branch);
-        self.begin_row(class, hang);
-        self.bar(branch, branch, class);
-        self.end_row(
-            &format!(
-                "<code>{own}</code> <span class=\"fate\">{fate}</span> <small>({spent})</small>"
-            ),
-            hang,
+        let text = format!(
+            "<code>{own}</code> <span class=\"fate\">{fate}</span> <small>({spent})</small>"
         );
+        let bar = self.bar(branch, branch, class);
+        self.row("div", class, hang, &bar, &text);
         if let Fate::Forked(_, branches) = &branch.fate {
             self.lines.extend(hang);
             let fork = self.x(last(branch));
@@ -135,8 +140,33 @@ impl<'s> Painter<'s> {
         }
     }
 
-    /// One row for several that died.
+    /// Several that died: one row, and theirs one level further in, to be unfolded.
     fn folded(&mut self, ids: &[usize], hang: Option<Hang>) {
+        let text = format!(
+            "<b>{} died</b> <span class=\"fate\">✕ {}</span>",
+            counted(ids.len(), "alternative"),
+            self.reasons(ids)
+        );
+        let (first, last) = (self.branch(ids[0]), self.branch(ids[ids.len() - 1]));
+        let fork = self.x(first.born) + STEP_IN;
+        let down = format!(
+            "<path d=\"M{fork:.0} {}V{HEIGHT}\" stroke=\"{GREY}\"/>",
+            HEIGHT / 2.0
+        );
+        let bar = self.bar(first, last, "died") + &down;
+        self.out += "<details><summary>";
+        // inside a summary HTML allows no block
+        self.row("span", "died", hang, &bar, &text);
+        self.out += "</summary>\n";
+        self.lines.extend(hang);
+        self.each(ids, Some(fork), false);
+        self.lines
+            .truncate(self.lines.len() - usize::from(hang.is_some()));
+        self.out += "</details>\n";
+    }
+
+    /// Why they died, the commonest reason first.
+    fn reasons(&self, ids: &[usize]) -> String {
         let mut reasons: BTreeMap<&str, usize> = BTreeMap::new();
         for id in ids {
             if let Fate::Died(_, why) = &self.branch(*id).fate {
@@ -153,15 +183,7 @@ impl<'s> Painter<'s> {
         if reasons.len() > 4 {
             shown.push("…".to_string());
         }
-        self.begin_row("died", hang);
-        let (first, last) = (self.branch(ids[0]), self.branch(ids[ids.len() - 1]));
-        self.bar(first, last, "died");
-        let text = format!(
-            "<b>{} died</b> <span class=\"fate\">✕ {}</span>",
-            counted(ids.len(), "alternative"),
-            shown.join(", ")
-        );
-        self.end_row(&text, hang);
+        shown.join(", ")
     }
 
     fn class(&self, id: usize) -> &'static str {
@@ -205,46 +227,52 @@ impl<'s> Painter<'s> {
 
     // ---- The lines.
 
-    /// A row's lines down and the line to it.
-    fn begin_row(&mut self, class: &str, hang: Option<Hang>) {
-        let _ = write!(
+    /// A row: the forks around it, its own line, and its words, further in by the forks; a text browser gets the lines in characters.
+    fn row(&mut self, element: &str, class: &str, hang: Option<Hang>, bar: &str, text: &str) {
+        let forks = self.lines.len() + usize::from(hang.is_some());
+        let indent = INDENT * forks.min(DEEPEST);
+        let (down, prefix) = (self.down(hang), self.prefix(hang));
+        let _ = writeln!(
             self.out,
-            "<div class=\"row {class}\"><svg width=\"{WIDTH}\" height=\"{HEIGHT}\" aria-hidden=\"true\"><path fill=\"none\" stroke=\"#9aa5b1\" d=\""
+            "<{element} class=\"row {class}\"><svg width=\"{WIDTH}\" height=\"{HEIGHT}\" aria-hidden=\"true\">{down}{bar}</svg>\
+             <span class=\"prefix\">{prefix}</span><span style=\"margin-left:{indent}px\">{text}</span></{element}>"
         );
+    }
+
+    /// The lines down of the forks around a row, and of the one that it hangs on.
+    fn down(&self, hang: Option<Hang>) -> String {
+        let mut path = String::new();
         let mut drawn = None;
         for around in self.lines.iter().filter(|line| line.goes_on) {
             if drawn != Some(around.x.round()) {
-                let _ = write!(self.out, "M{:.0} 0V{HEIGHT}", around.x);
+                let _ = write!(path, "M{:.0} 0V{HEIGHT}", around.x);
                 drawn = Some(around.x.round());
             }
         }
         if let Some(Hang { x, goes_on }) = hang {
             let down = if goes_on { HEIGHT } else { HEIGHT / 2.0 };
-            let _ = write!(self.out, "M{x:.0} 0V{down}");
+            let _ = write!(path, "M{x:.0} 0V{down}");
         }
-        self.out += "\"/>";
+        format!("<path fill=\"none\" stroke=\"{GREY}\" d=\"{path}\"/>")
     }
 
-    /// The line of an alternative, or of several: thin from where it was made, thick where it was worked, and how it ended.
-    fn bar(&mut self, from: &Branch, to: &Branch, class: &str) {
+    /// The line of an alternative, or of several: thin where it waits, thick where it was worked, and how it ended.
+    fn bar(&self, from: &Branch, to: &Branch, class: &str) -> String {
         let colour = colour(class);
         let middle = HEIGHT / 2.0;
         let born = self.x(from.born);
         let first = self.x(from.steps.first().map_or(from.born, |(step, _)| step - 1));
         let last = self.x(last(to));
-        let _ = write!(
-            self.out,
-            "<path d=\"M{born:.1} {middle}H{first:.1}\" stroke=\"#9aa5b1\"/><path d=\"M{first:.1} {middle}H{last:.1}\" stroke=\"{colour}\" stroke-width=\"5\"/>{}",
-            end_mark(class, last, colour)
-        );
-    }
-
-    fn end_row(&mut self, text: &str, hang: Option<Hang>) {
-        let prefix = self.prefix(hang);
-        let _ = writeln!(
-            self.out,
-            "</svg><span class=\"prefix\">{prefix}</span>{text}</div>"
-        );
+        // what was not worked to its end waits until the run's
+        let end = match class {
+            "open" => self.x(self.end.stop.steps),
+            _ => last,
+        };
+        format!(
+            "<path d=\"M{born:.1} {middle}H{first:.1}M{last:.1} {middle}H{end:.1}\" stroke=\"{GREY}\"/>\
+             <path d=\"M{first:.1} {middle}H{last:.1}\" stroke=\"{colour}\" stroke-width=\"5\"/>{}",
+            end_mark(class, end, colour)
+        )
     }
 
     /// The lines in characters, for a text browser.
@@ -300,7 +328,7 @@ fn end_mark(class: &str, x: f64, colour: &str) -> String {
             "<path d=\"M{:.1} 7l8 8m-8 0l8 -8\" stroke=\"{colour}\" stroke-width=\"2\"/>",
             x - 4.0
         ),
-        _ => format!("<path d=\"M{x:.0} {middle}V{HEIGHT}\" stroke=\"#9aa5b1\"/>"),
+        _ => format!("<path d=\"M{x:.0} {middle}V{HEIGHT}\" stroke=\"{GREY}\"/>"),
     }
 }
 
