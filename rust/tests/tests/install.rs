@@ -189,7 +189,7 @@ echo \"rt was called: $*\"
 exit 1
 ";
 
-/// A copy of all that tools/archive reads, with the archives; in kit/ is the stand-in.
+/// A copy of all that tools/archive and tools/install read, with the archives; in kit/ is the stand-in.
 struct Copy {
     folder: Folder,
 }
@@ -199,11 +199,14 @@ impl Copy {
         assert!(tools_archive().status.success());
         let folder = Folder::new(name);
         let copy = Copy { folder };
-        fs::create_dir(copy.file("target")).unwrap();
+        for folder in ["target", "rust", "kit", "kit/bin"] {
+            fs::create_dir(copy.file(folder)).unwrap();
+        }
         for part in [
             "crates",
             "crates.txt",
             "include",
+            "rust/Cargo.toml",
             "tools",
             "target/native",
             "target/staticlib",
@@ -211,7 +214,6 @@ impl Copy {
             let mut cp = Command::new("cp");
             printed(cp.arg("-R").arg(root().join(part)).arg(copy.file(part)));
         }
-        fs::create_dir_all(copy.file("kit/bin")).unwrap();
         fs::write(copy.file("kit/bin/rt"), RT).unwrap();
         printed(Command::new("chmod").arg("+x").arg(copy.file("kit/bin/rt")));
         let version = printed(Command::new("rt").arg("version"));
@@ -227,12 +229,17 @@ impl Copy {
         self.file("target/native/stamp")
     }
 
-    fn archive(&self) -> Output {
+    /// One of its tools, with the stand-in for rt.
+    fn tool(&self, name: &str) -> Command {
         let rest = std::env::var("PATH").unwrap();
         let path = format!("{}:{rest}", self.file("kit/bin").display());
-        let mut tool = Command::new(self.file("tools/archive"));
-        let tool = tool.env("PATH", path).env_remove("RATTLE_HOME");
-        tool.output().unwrap()
+        let mut tool = Command::new(self.file(name));
+        tool.env("PATH", path).env_remove("RATTLE_HOME");
+        tool
+    }
+
+    fn archive(&self) -> Output {
+        self.tool("tools/archive").output().unwrap()
     }
 
     /// It sets out to make the archives, says so first, and fails as the stand-in does.
@@ -289,4 +296,15 @@ fn archives_are_made_again_where_something_has_changed() {
     }
     fs::remove_file(copy.file("target/native/libmespindro.a")).unwrap();
     copy.assert_made("an archive that is gone");
+}
+
+#[test]
+fn nothing_is_installed_without_an_archive() {
+    let copy = Copy::new("without");
+    let prefix = copy.file("prefix");
+    fs::remove_file(copy.stamp()).unwrap();
+    let mut install = copy.tool("tools/install");
+    let output = install.arg(&prefix).output().unwrap();
+    assert_eq!(output.status.code(), Some(1), "{}", errors(&output));
+    assert!(!prefix.exists());
 }
