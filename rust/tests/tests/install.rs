@@ -233,7 +233,9 @@ impl Copy {
     fn tool(&self, name: &str) -> Command {
         let rest = std::env::var("PATH").unwrap();
         let path = format!("{}:{rest}", self.file("kit/bin").display());
-        let mut tool = Command::new(self.file(name));
+        // by the shell's name: a file that was just written may be busy for a start by its own
+        let mut tool = Command::new("bash");
+        tool.arg(self.file(name));
         tool.env("PATH", path).env_remove("RATTLE_HOME");
         tool
     }
