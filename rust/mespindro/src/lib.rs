@@ -45,6 +45,11 @@ mod refusal;
 pub use answer::{Counts, Move, Reason, Rule, Standing, Stop};
 pub use refusal::Refusal;
 
+/// The example of the README is compiled and run too.
+#[cfg(doctest)]
+#[doc = include_str!("../README.md")]
+struct Readme;
+
 /// The most nodes of a program.
 pub const NODES: usize = 2048;
 

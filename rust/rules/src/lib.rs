@@ -6,7 +6,10 @@
 
 pub mod follow;
 pub mod notation;
+pub mod page;
 pub mod redex;
 pub mod run;
+pub mod story;
 pub mod term;
+pub mod trace;
 pub mod why;

@@ -70,6 +70,14 @@ impl Names {
             .map(|(n, _)| n.as_str())
     }
 
+    /// With `ok` for constructor 0, as people call it, where that is free.
+    pub fn with_ok(mut self) -> Names {
+        if self.number("ok").is_none() && self.name(0).is_none() {
+            self.declare("ok", 0);
+        }
+        self
+    }
+
     fn declare(&mut self, name: &str, number: u16) {
         self.0.push((name.to_string(), number));
     }
@@ -95,9 +103,11 @@ pub fn read_incoherent(readable: &str) -> Result<Program, Error> {
     readable::read(readable).map(|(_, program, _)| program)
 }
 
-/// A file's bytes as the characters of a readable form.
+/// A file's bytes as the characters of a readable form; some editors put a mark before the first one.
 pub fn utf8(content: &[u8]) -> Result<&str, Error> {
-    std::str::from_utf8(content).map_err(|error| {
+    let text = std::str::from_utf8(content);
+    let text = text.map(|text| text.strip_prefix('\u{feff}').unwrap_or(text));
+    text.map_err(|error| {
         let before = String::from_utf8_lossy(&content[..error.valid_up_to()]);
         let last = before.rsplit('\n').next().unwrap_or("");
         Error {
@@ -142,6 +152,11 @@ pub fn line(term: &Term, names: &Names, way: Option<&[Side]>, width: usize) -> S
 /// An unknown's name, or its number.
 pub fn unknown(number: u16, name: &Name) -> String {
     piece::unknown(number, name)
+}
+
+/// An allocated rule that is spoken of.
+pub fn rule(location: u16, name: &Name) -> String {
+    piece::rule(location, name)
 }
 
 /// A number of a plain decimal (no sign, no leading zero) up to `most`.

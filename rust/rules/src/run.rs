@@ -2,9 +2,9 @@
 
 use mespindro::{Reason, Refusal, Standing, Stop, NODES, TABLE};
 
-use crate::follow::{program_of, Follow};
-use crate::notation::{self, unknown, Error, Names};
-use crate::term::{closures, each_term, free_variables, Program, Term};
+use crate::follow::{program_of, Follow, Step};
+use crate::notation::{self, rule, unknown, Error, Names};
+use crate::term::{closure_names, each_term, free_variables, Program, Term};
 
 /// As many steps as the program on standard input makes.
 pub const STEPS: u32 = 10_000;
@@ -15,7 +15,7 @@ pub struct RuleSet {
     pub text: Vec<u8>,
     /// The same as a tree.
     pub program: Program,
-    /// Those that the file declares.
+    /// Those that the file declares, and `ok`.
     pub names: Names,
 }
 
@@ -26,20 +26,20 @@ impl RuleSet {
             return Ok(RuleSet {
                 text: content.to_vec(),
                 program: notation::program(content)?,
-                names: Names::default(),
+                names: Names::default().with_ok(),
             });
         }
-        let (names, program) = notation::read(&notation::utf8(content)?)?;
+        let (names, program) = notation::read(notation::utf8(content)?)?;
         Ok(RuleSet {
             text: notation::text(&program),
             program,
-            names,
+            names: names.with_ok(),
         })
     }
 }
 
-/// Brackets and then a digit: no readable form begins so.
-fn is_canonical(content: &[u8]) -> bool {
+/// Whether a file's content is a canonical text, right or wrong: brackets and then a digit. No readable form begins so.
+pub fn is_canonical(content: &[u8]) -> bool {
     let brackets = content.iter().take_while(|byte| **byte == b'(').count();
     content.get(brackets).is_some_and(u8::is_ascii_digit)
 }
@@ -54,31 +54,35 @@ pub struct End {
 
 /// Reads and runs a rule set.
 pub fn run(rule_set: &RuleSet, steps: u32) -> Result<End, Refusal> {
+    run_seen(rule_set, steps, &mut |_| {})
+}
+
+/// Reads and runs a rule set; `see` is shown each step.
+///
+/// The end is that of the library's run. The same steps are then made one by one, for those who watch and for the names of variables.
+pub fn run_seen(
+    rule_set: &RuleSet,
+    steps: u32,
+    see: &mut dyn FnMut(&Step),
+) -> Result<End, Refusal> {
     let mut table = vec![0; TABLE];
     let count = mespindro::read(&rule_set.text, &mut table)?;
     let stop = mespindro::run(&mut table, count, &mut vec![0; TABLE], steps)?;
-    let program = named(rule_set, &stop, program_of(&table, stop.nodes))?;
+    let program = program_of(&table, stop.nodes);
     let standings = (0..program.len()).map(|k| mespindro::standing(&table, stop.nodes, k));
     let standings = standings.collect::<Result<Vec<_>, Refusal>>()?;
-    Ok(End {
-        stop,
-        threads: standings.into_iter().zip(program).collect(),
-    })
-}
-
-/// The end program with the names of its variables, which are found by making the same steps one by one.
-fn named(rule_set: &RuleSet, stop: &Stop, end: Program) -> Result<Program, Refusal> {
     let mut follow = Follow::new(rule_set)?;
     for _ in 0..stop.steps {
-        if follow.step().is_err() {
-            break;
+        match follow.step() {
+            Ok(step) => see(&step),
+            Err(_) => break,
         }
     }
-    let named = follow.program().to_vec();
-    match notation::text(&named) == notation::text(&end) {
-        true => Ok(named),
-        false => Ok(end),
-    }
+    let threads = follow.named(program);
+    Ok(End {
+        stop,
+        threads: standings.into_iter().zip(threads).collect(),
+    })
 }
 
 /// The end in words: reason, steps and nodes, what the steps were, then each thread with its standing and what is missing in it.
@@ -124,10 +128,9 @@ fn undecided(term: &Term) -> String {
         .iter()
         .map(|(number, name)| unknown(*number, name));
     let unknowns = listed(unknowns.collect(), "is not decided", "are not decided");
-    let rules = closures(term)
-        .into_keys()
-        .map(|location| format!("L{location}"));
-    let rules = listed(rules.collect(), "is left a rule", "are left rules");
+    let rules = closure_names(term);
+    let rules = rules.iter().map(|(location, name)| rule(*location, name));
+    let rules = listed(rules.collect(), "is not applied", "are not applied");
     let both: Vec<String> = unknowns.into_iter().chain(rules).collect();
     both.join(", ")
 }

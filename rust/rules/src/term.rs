@@ -94,3 +94,14 @@ pub fn closures(term: &Term) -> BTreeMap<u16, &Term> {
     });
     found
 }
+
+/// The locations anywhere in a term, bodies included, with the names of what their rules ask for.
+pub fn closure_names(term: &Term) -> BTreeMap<u16, Name> {
+    let names = closures(term)
+        .into_iter()
+        .map(|(location, closure)| match closure {
+            Allocated(_, name, _) => (location, name.clone()),
+            _ => (location, None),
+        });
+    names.collect()
+}

@@ -2,13 +2,13 @@
 
 use std::path::Path;
 
-use mespindro::Refusal;
+use mespindro_tests::evaluator::text::write_text;
+use mespindro_tests::evaluator::tree::{application, fresh, guard, Program, Term};
 use mespindro_tests::generate;
 use mespindro_tests::on_big_stack;
 use mespindro_tests::random::Random;
-use rules::notation::{
-    from_text, from_text_named, names, program, text, to_text, Names, Program, Term,
-};
+use mespindro_tests::short::without_names;
+use rules::notation::{from_text, from_text_named, program, read, text, to_text, Names};
 
 fn random_programs(count: usize) -> impl Iterator<Item = Program> {
     let mut random = Random::new(2);
@@ -41,7 +41,7 @@ fn rule_files() {
         let readable = std::fs::read_to_string(&path).unwrap();
         let canonical = to_text(&readable).unwrap();
         check_round_trip(&canonical, &Names::default());
-        check_round_trip(&canonical, &names(&readable).unwrap());
+        check_round_trip(&canonical, &read(&readable).unwrap().0);
         count += 1;
     }
     assert!(count >= 5);
@@ -50,12 +50,14 @@ fn rule_files() {
 
 #[test]
 fn random_round_trips() {
-    let names = names("= ok c0 = red c1 = blue c2 = vlan-10 c10 = last c65535 ()").unwrap();
+    let (names, _) = read("= ok c0 = red c1 = blue c2 = vlan-10 c10 = last c65535 ()").unwrap();
     let mut bytes = 0;
     let count = 4000;
     for made in random_programs(count) {
-        let canonical = text(&made);
-        assert_eq!(program(&canonical).unwrap(), made);
+        let canonical = write_text(&made);
+        let got = program(&canonical).unwrap();
+        assert_eq!(without_names(&got), made);
+        assert_eq!(text(&got), canonical);
         check_round_trip(&canonical, &Names::default());
         check_round_trip(&canonical, &names);
         bytes += canonical.len();
@@ -66,21 +68,21 @@ fn random_round_trips() {
 #[test]
 fn deep_programs() {
     let chains: [fn(Term) -> Term; 4] = [
-        |inner| Term::Fresh(Box::new(inner)),
-        |inner| Term::Application(Box::new(inner), Box::new(Term::Constructor(1))),
-        |inner| Term::Guard(Box::new(Term::Constructor(1)), Box::new(inner)),
+        fresh,
+        |inner| application(inner, Term::Constructor(1)),
+        |inner| guard(Term::Constructor(1), inner),
         |inner| Term::Abstraction(vec![inner]),
     ];
     for (chain, levels) in chains.into_iter().zip([2045, 1022, 1022, 681]) {
         let made = |levels| (0..levels).fold(Term::Constructor(0), |inner, _| chain(inner));
-        check_round_trip(&text(&[made(levels)]), &Names::default());
-        let error = program(&text(&[made(levels + 1)])).unwrap_err();
+        check_round_trip(&write_text(&[made(levels)]), &Names::default());
+        let error = program(&write_text(&[made(levels + 1)])).unwrap_err();
         assert!(error.message.contains("more than 2048 nodes"), "{error}");
     }
     println!("4 chains at the node limit, 4 beyond it");
 }
 
-/// A text is read here exactly where the library reads it, or refuses it for coherence alone, which is not looked at here.
+/// A text is read here exactly where the library reads it.
 #[test]
 fn agreement_with_the_library() {
     let (accepted, refused) = on_big_stack(compare_with_the_library);
@@ -94,10 +96,7 @@ fn compare_with_the_library() -> (usize, usize) {
     let (mut accepted, mut refused) = (0, 0);
     for _ in 0..20_000 {
         let given = generate::text(&mut random);
-        let library = match mespindro::read(&given, &mut table) {
-            Ok(_) | Err(Refusal::Incoherent) => true,
-            Err(_) => false,
-        };
+        let library = mespindro::read(&given, &mut table).is_ok();
         assert_eq!(
             from_text(&given).is_ok(),
             library,
@@ -121,7 +120,7 @@ fn changed_readable_forms() {
     let mut table = vec![0; 4096];
     let (mut accepted, mut refused) = (0, 0);
     for made in random_programs(2000) {
-        let readable = from_text(&text(&made)).unwrap();
+        let readable = from_text(&write_text(&made)).unwrap();
         for _ in 0..5 {
             let place = random.below(readable.len());
             let put = random.pick(&PUT);
@@ -130,10 +129,7 @@ fn changed_readable_forms() {
                 Ok(canonical) => {
                     accepted += 1;
                     let read = mespindro::read(&canonical, &mut table);
-                    assert!(
-                        matches!(read, Ok(_) | Err(Refusal::Incoherent)),
-                        "{changed}"
-                    );
+                    assert!(read.is_ok(), "{changed}");
                 }
                 Err(error) => {
                     refused += 1;
@@ -246,6 +242,18 @@ fn errors_of_the_readable_form() {
             14,
             "red is already a name here",
         ),
+        (
+            "((L 0 (c1)) (a (L 0 (c1))\n (L 0 (c2))))",
+            2,
+            3,
+            "location 0 has two different bodies in one thread",
+        ),
+        (
+            "((n it (L 7 (it))))",
+            1,
+            9,
+            "(L 7 …) uses a variable that is bound outside it",
+        ),
         ("(é)", 1, 2, "a term must stand here"),
         ("((u é z))", 1, 5, "a term must stand here"),
     ];
@@ -260,9 +268,14 @@ fn errors_of_the_readable_form() {
 #[test]
 fn errors_of_the_canonical_text() {
     let cases = [
-        ("", 1, "'(' must stand here"),
+        ("", 1, "'(' must stand here, and the text ends"),
+        (
+            "((1:c1:1)",
+            10,
+            "'(' or ')' must stand here, and the text ends",
+        ),
         ("()\n", 3, "the text goes on behind the program"),
-        ("(1:c)", 2, "'(' must stand here"),
+        ("(1:c)", 2, "'(' or ')' must stand here"),
         ("((1:z))", 3, "unknown tag"),
         ("((01:c1:1))", 3, "an atom's length must stand here"),
         (
@@ -273,6 +286,11 @@ fn errors_of_the_canonical_text() {
         ("((1:c9:1))", 6, "an atom must stand here"),
         ("((1:v1:0))", 6, "bound variable 0 has no binder"),
         ("((1:c1:01:0))", 9, "')' must stand here"),
+        (
+            "((1:a(1:L1:0())(1:L1:0((1:c1:1)))))",
+            17,
+            "location 0 has two different bodies in one thread",
+        ),
     ];
     for (canonical, column, message) in cases {
         let error = from_text(canonical.as_bytes()).expect_err(canonical);

@@ -1,13 +1,14 @@
 //! The rule sets in rules/ and the examples of rules/README.md: each readable form gives its canonical text and its end.
 
 use std::path::{Path, PathBuf};
-use std::process::{Command, Output};
 
 use mespindro::Reason;
 use mespindro_tests::evaluator::{self, text::write_text};
 use mespindro_tests::on_big_stack;
+use mespindro_tests::short::without_names;
 use rules::notation;
 use rules::run::{describe, run, RuleSet, STEPS};
+use rules::term::Term;
 
 fn folder() -> PathBuf {
     Path::new(env!("CARGO_MANIFEST_DIR")).join("../../rules")
@@ -31,7 +32,7 @@ fn rule_sets() -> Vec<String> {
 
 fn end_of(readable: &str) -> String {
     let rule_set = RuleSet::of(readable.as_bytes()).unwrap_or_else(|error| panic!("{error}"));
-    let end = run(&rule_set.text, STEPS).unwrap_or_else(|refusal| panic!("{refusal:?}"));
+    let end = run(&rule_set, STEPS).unwrap_or_else(|refusal| panic!("{refusal:?}"));
     describe(&end, &rule_set.names)
 }
 
@@ -57,13 +58,13 @@ fn every_rule_set() {
 fn the_evaluator_agrees() {
     for name in rule_sets() {
         let text = file(&format!("{name}.csexp"));
-        let end = run(text.as_bytes(), STEPS).unwrap();
-        let threads: Vec<notation::Term> = end.threads.into_iter().map(|(_, term)| term).collect();
+        let end = run(&RuleSet::of(text.as_bytes()).unwrap(), STEPS).unwrap();
+        let threads: Vec<Term> = end.threads.into_iter().map(|(_, term)| term).collect();
         let program = evaluator::text::read_text(text.as_bytes()).unwrap();
         let other = on_big_stack(|| evaluator::run_program(program, evaluator::NODES, STEPS));
         let other = other.expect("small enough to copy");
         assert_eq!(other.stop(), end.stop, "{name}");
-        assert_eq!(other.end, threads, "{name}");
+        assert_eq!(other.end, without_names(&threads), "{name}");
         assert_eq!(write_text(&other.end), notation::text(&threads), "{name}");
     }
 }
@@ -117,53 +118,6 @@ fn every_example_of_the_page() {
     println!("{checked} examples of rules/README.md gave their end");
 }
 
-fn command(arguments: &[&str]) -> Output {
-    let mut command = Command::new(env!("CARGO_BIN_EXE_rules"));
-    command
-        .args(arguments)
-        .current_dir(folder())
-        .output()
-        .unwrap()
-}
-
-#[test]
-fn the_command() {
-    for name in rule_sets() {
-        let [readable, canonical] = ["rules", "csexp"].map(|e| format!("{name}.{e}"));
-        let text = command(&["text", &readable]);
-        assert_eq!(String::from_utf8_lossy(&text.stdout), file(&canonical));
-        let run = command(&["run", &readable]);
-        assert_eq!(
-            String::from_utf8_lossy(&run.stdout),
-            file(&format!("{name}.end"))
-        );
-        let shown = command(&["show", &canonical, &readable]);
-        let shown = String::from_utf8(shown.stdout).unwrap();
-        assert_eq!(
-            notation::to_text(&shown).unwrap(),
-            file(&canonical).into_bytes()
-        );
-    }
-    let failures: [(&[&str], &str); 4] = [
-        (
-            &["text", "two-tenants.csexp"],
-            "two-tenants.csexp:1:3: a tag",
-        ),
-        (
-            &["show", "two-tenants.rules"],
-            "two-tenants.rules:1:1: '(' must",
-        ),
-        (&["run", "no-such-file"], "no-such-file: "),
-        (&["walk"], "rules text FILE"),
-    ];
-    for (arguments, message) in failures {
-        let output = command(arguments);
-        assert_eq!(output.status.code(), Some(1), "{arguments:?}");
-        let errors = String::from_utf8_lossy(&output.stderr);
-        assert!(errors.starts_with(message), "{errors}");
-    }
-}
-
 /// The leaf answers each tenant's request within the node limit, and nobody gets an excluded port.
 #[test]
 fn every_request_of_the_leaf() {
@@ -171,11 +125,11 @@ fn every_request_of_the_leaf() {
     let (rules, request) = leaf.rsplit_once("blue").unwrap();
     for (tenant, placements) in [("red", 23), ("blue", 21), ("green", 15)] {
         let rule_set = RuleSet::of(format!("{rules}{tenant}{request}").as_bytes()).unwrap();
-        let end = run(&rule_set.text, STEPS).unwrap();
+        let end = run(&rule_set, STEPS).unwrap();
         assert_eq!(end.stop.reason, Reason::Ended, "{tenant}");
         assert_eq!(end.threads.len(), placements, "{tenant}");
         let described = describe(&end, &rule_set.names);
-        assert!(!described.contains("free"), "{tenant}: {described}");
+        assert!(!described.contains("decided"), "{tenant}: {described}");
         for port in ["port-13 ", "port-30 ", "port-47 ", "port-48 "] {
             assert!(!described.contains(port), "{tenant} on {port}");
         }

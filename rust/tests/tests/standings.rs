@@ -140,6 +140,6 @@ fn count_standings(program: &Program, told: &mut [usize; 4]) {
         let kinds = mespindro::thread(&table, count, k).iter().step_by(2);
         let unknown = kinds.filter(|kind| [3, 6].contains(*kind)).count();
         assert_eq!(standing == Answer, standing != Open && unknown == 0);
-        told[standing as usize] += 1;
+        told[usize::from(standing.code()) - 1] += 1;
     }
 }

@@ -90,10 +90,14 @@ struct Reader<'a> {
 
 impl Reader<'_> {
     fn error(&self, message: impl Into<String>) -> Error {
+        let mut message: String = message.into();
+        if self.place >= self.text.len() {
+            message += ", and the text ends";
+        }
         Error {
             line: 1,
             column: self.place + 1,
-            message: message.into(),
+            message,
         }
     }
 
@@ -147,6 +151,9 @@ impl Reader<'_> {
         self.count(1)?;
         let mut alternatives = Vec::new();
         while !self.next_is(b')') {
+            if !self.next_is(b'(') {
+                return Err(self.error("'(' or ')' must stand here"));
+            }
             self.count(1)?;
             alternatives.push(self.term()?);
         }

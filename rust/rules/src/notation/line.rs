@@ -8,30 +8,41 @@ use crate::redex::Side;
 /// What stands for something that is left out.
 const LEFT_OUT: &str = "…";
 
-/// How much is shown beside the place: brackets so deep, and so many parts of a bracket on either side.
+/// How much is shown: brackets so deep beside the place, one less for each bracket further out; so deep in the place itself; and so many parts
+/// of a bracket on either side.
 #[derive(Clone, Copy)]
 struct Detail {
-    depth: usize,
+    beside: usize,
+    place: usize,
     parts: usize,
 }
 
 const ALL: usize = usize::MAX;
 
 /// From everything to nearly nothing.
-const DETAILS: [Detail; 9] = [
-    detail(ALL, ALL),
-    detail(5, ALL),
-    detail(4, ALL),
-    detail(3, ALL),
-    detail(2, ALL),
-    detail(1, ALL),
-    detail(1, 3),
-    detail(1, 1),
-    detail(0, 1),
+const DETAILS: [Detail; 14] = [
+    detail(ALL, ALL, ALL),
+    detail(6, 7, ALL),
+    detail(5, 6, ALL),
+    detail(4, 5, ALL),
+    detail(3, 4, ALL),
+    detail(2, 3, ALL),
+    detail(2, 3, 3),
+    detail(2, 3, 2),
+    detail(2, 3, 1),
+    detail(1, 3, 2),
+    detail(1, 2, 1),
+    detail(0, 3, 1),
+    detail(0, 2, 1),
+    detail(0, 1, 1),
 ];
 
-const fn detail(depth: usize, parts: usize) -> Detail {
-    Detail { depth, parts }
+const fn detail(beside: usize, place: usize, parts: usize) -> Detail {
+    Detail {
+        beside,
+        place,
+        parts,
+    }
 }
 
 /// The term on a line of at most `width` characters, of which `way` leads to the place that a step works on, if there is one.
@@ -43,13 +54,9 @@ pub fn line(term: &Term, names: &Names, way: Option<&[Side]>, width: usize) -> S
 
 /// The place with as many of the brackets around it as fit, and dots on both sides.
 fn around_place(whole: &Piece, width: usize) -> String {
-    let mut chain = vec![whole];
-    while let Some(inner) = inner(chain[chain.len() - 1]) {
-        chain.push(inner);
-    }
     let room = width.saturating_sub(2 * (LEFT_OUT.chars().count() + 1));
     let mut shown = None;
-    for around in chain.into_iter().rev() {
+    for around in chain(whole).into_iter().rev() {
         let details = DETAILS[DETAILS.len() - 2..].iter();
         let mut fitting = details.filter_map(|d| written(around, *d, room));
         match fitting.next() {
@@ -59,8 +66,18 @@ fn around_place(whole: &Piece, width: usize) -> String {
     }
     match shown {
         Some(line) => format!("{LEFT_OUT} {line} {LEFT_OUT}"),
-        None => LEFT_OUT.to_string(),
+        None if whole.focus == Focus::Beside => LEFT_OUT.to_string(),
+        None => format!("[{LEFT_OUT}]"),
     }
+}
+
+/// The brackets around the place, the outermost first, and the place itself.
+fn chain(whole: &Piece) -> Vec<&Piece> {
+    let mut chain = vec![whole];
+    while let Some(inner) = inner(chain[chain.len() - 1]) {
+        chain.push(inner);
+    }
+    chain
 }
 
 /// The part that the place is, or is in.
@@ -77,7 +94,7 @@ fn written(piece: &Piece, detail: Detail, width: usize) -> Option<String> {
         room: width,
         detail,
     };
-    line.put(piece, detail.depth)?;
+    line.put(piece, chain(piece).len() - 1, detail.beside)?;
     Some(line.text)
 }
 
@@ -95,15 +112,14 @@ impl Line {
         Some(())
     }
 
-    /// None where the line is full.
-    fn put(&mut self, piece: &Piece, depth: usize) -> Option<()> {
+    /// Puts a piece; `away` counts the brackets from it to the place, if that is inside it. None where the line is full.
+    fn put(&mut self, piece: &Piece, away: usize, depth: usize) -> Option<()> {
         match piece.focus {
             Focus::Beside => self.beside(piece, depth),
-            Focus::Around => self.around(piece),
-            // in more detail than what is beside it
+            Focus::Around => self.around(piece, away),
             Focus::There => {
                 self.add("[")?;
-                self.beside(piece, depth.saturating_add(2))?;
+                self.beside(piece, self.detail.place)?;
                 self.add("]")
             }
         }
@@ -118,18 +134,19 @@ impl Line {
             return self.add(LEFT_OUT);
         }
         let shown = self.detail.parts.saturating_mul(2);
-        let kept = |index: usize| parts.len() <= shown || index < shown;
-        self.bracket(head, parts, &kept, depth.saturating_sub(1))
+        let kept = |index: usize| index < shown;
+        self.bracket(head, parts, &kept, 0, depth.saturating_sub(1))
     }
 
-    fn around(&mut self, piece: &Piece) -> Option<()> {
+    fn around(&mut self, piece: &Piece, away: usize) -> Option<()> {
         let Shape::List(head, parts) = &piece.shape else {
             return None;
         };
         let place = parts.iter().position(|p| p.focus != Focus::Beside)?;
         let near = self.detail.parts;
         let kept = |index: usize| index.abs_diff(place) <= near;
-        self.bracket(head, parts, &kept, self.detail.depth)
+        let depth = self.detail.beside.saturating_sub(away - 1);
+        self.bracket(head, parts, &kept, away - 1, depth)
     }
 
     /// A bracket with the parts that are kept; dots for each run of the others.
@@ -138,6 +155,7 @@ impl Line {
         head: &str,
         parts: &[Piece],
         kept: &dyn Fn(usize) -> bool,
+        away: usize,
         depth: usize,
     ) -> Option<()> {
         self.add("(")?;
@@ -152,7 +170,7 @@ impl Line {
             self.add(if first { "" } else { " " })?;
             match dots {
                 true => self.add(LEFT_OUT)?,
-                false => self.put(part, depth)?,
+                false => self.put(part, away, depth)?,
             }
             (first, left_out) = (false, dots);
         }

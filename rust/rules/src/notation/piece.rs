@@ -57,6 +57,14 @@ pub fn unknown(number: u16, name: &Name) -> String {
     }
 }
 
+/// A rule that is spoken of: its location, and what it asks for.
+pub fn rule(location: u16, name: &Name) -> String {
+    match name {
+        Some(name) => format!("the rule L{location} on {name}"),
+        None => format!("the rule L{location}"),
+    }
+}
+
 struct Maker<'a> {
     names: &'a Names,
     /// The names of the binders around the place, the innermost last.

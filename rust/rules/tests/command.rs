@@ -1,0 +1,269 @@
+//! The command `rules`: what it prints for the rule sets in rules/, what it says of bad input, and that it then writes nothing.
+
+use std::fs;
+use std::path::{Path, PathBuf};
+use std::process::{Command, Output};
+
+/// The rule sets of the repository.
+fn folder() -> PathBuf {
+    Path::new(env!("CARGO_MANIFEST_DIR")).join("../../rules")
+}
+
+/// A folder of one test's own.
+fn own(test: &str) -> PathBuf {
+    let folder = Path::new(env!("CARGO_TARGET_TMPDIR")).join(test);
+    let _ = fs::remove_dir_all(&folder);
+    fs::create_dir_all(&folder).unwrap();
+    folder
+}
+
+fn file(name: &str) -> String {
+    fs::read_to_string(folder().join(name)).unwrap_or_else(|error| panic!("{name}: {error}"))
+}
+
+fn rule_sets() -> Vec<String> {
+    let entries = fs::read_dir(folder()).unwrap();
+    let names = entries.map(|entry| entry.unwrap().file_name().into_string().unwrap());
+    names
+        .filter_map(|name| name.strip_suffix(".rules").map(String::from))
+        .collect()
+}
+
+fn rules(folder: &Path, arguments: &[&str]) -> Output {
+    let mut command = Command::new(env!("CARGO_BIN_EXE_rules"));
+    let command = command.args(arguments).current_dir(folder);
+    command.env_remove("COLUMNS").output().unwrap()
+}
+
+fn printed(arguments: &[&str]) -> String {
+    let output = rules(&folder(), arguments);
+    let errors = String::from_utf8_lossy(&output.stderr);
+    assert!(output.status.success(), "{arguments:?}: {errors}");
+    assert_eq!(errors, "", "{arguments:?}");
+    String::from_utf8(output.stdout).unwrap()
+}
+
+/// What it says on standard error, after it has ended with this status and printed nothing else.
+fn complaint(folder: &Path, arguments: &[&str], status: i32) -> String {
+    let output = rules(folder, arguments);
+    assert_eq!(output.status.code(), Some(status), "{arguments:?}");
+    assert_eq!(output.stdout, b"", "{arguments:?}");
+    String::from_utf8(output.stderr).unwrap()
+}
+
+#[test]
+fn text_show_and_run() {
+    for name in rule_sets() {
+        let [readable, canonical] = ["rules", "csexp"].map(|e| format!("{name}.{e}"));
+        assert_eq!(printed(&["text", &readable]), file(&canonical));
+        assert_eq!(printed(&["run", &readable]), file(&format!("{name}.end")));
+        let shown = own("show").join("shown.rules");
+        fs::write(&shown, printed(&["show", &canonical, &readable])).unwrap();
+        let again = printed(&["text", shown.to_str().unwrap()]);
+        assert_eq!(again, file(&canonical), "{name}");
+    }
+}
+
+/// A trace ends as the run does, has a step for each, and no line that is wider than a screen.
+#[test]
+fn trace() {
+    for name in rule_sets() {
+        let readable = format!("{name}.rules");
+        let (traced, end) = (
+            printed(&["run", "--trace", &readable]),
+            file(&format!("{name}.end")),
+        );
+        let steps = traced.strip_suffix(&end).expect("the run's own end");
+        let told = steps
+            .lines()
+            .filter(|line| line.starts_with("step "))
+            .count();
+        let word = end.split(' ').nth(1).unwrap();
+        assert_eq!(told.to_string(), word, "{name}");
+        let widest = steps.lines().map(|line| line.chars().count()).max();
+        assert!(
+            widest.is_some_and(|widest| widest <= 80),
+            "{name}: {widest:?}"
+        );
+    }
+}
+
+/// What the two pages show of a trace is a part of it.
+#[test]
+fn trace_of_the_accident() {
+    let page = file("README.md");
+    let (_, told) = page.split_once("```trace\n").expect("a trace");
+    let (told, _) = told.split_once("```").expect("its end");
+    let traced = printed(&["run", "accident.rules", "--trace"]);
+    assert!(traced.contains(told), "{traced}");
+    let indented: String = told.lines().map(|line| format!("    {line}\n")).collect();
+    assert!(file("../docs/USING.md").contains(&indented));
+}
+
+/// The commands that docs/USING.md shows, with what they print.
+#[test]
+fn commands_of_the_page() {
+    let folder = own("using");
+    let link = std::os::unix::fs::symlink(self::folder(), folder.join("rules"));
+    link.unwrap();
+    fs::write(folder.join("torn.csexp"), FILES[1].1).unwrap();
+    let page = file("../docs/USING.md");
+    let shown: Vec<&str> = page.split("\n    $ rules ").skip(1).collect();
+    for shown in &shown {
+        let block = shown.split("\n\n").next().unwrap();
+        let (words, expected) = block.split_once('\n').expect("what it prints");
+        let words: Vec<&str> = words.split(' ').collect();
+        let output = rules(&folder, &words);
+        let printed = [output.stdout, output.stderr].concat();
+        let printed = String::from_utf8(printed).unwrap();
+        let indented: Vec<String> = printed.lines().map(|line| format!("    {line}")).collect();
+        assert_eq!(indented.join("\n"), expected, "{words:?}");
+    }
+    assert_eq!(shown.len(), 2);
+}
+
+/// The page has every thread of the end, and nothing from outside.
+#[test]
+fn page() {
+    let folder = own("page");
+    for name in rule_sets() {
+        let page = folder.join(format!("{name}.html"));
+        let arguments = [
+            "run",
+            "--html",
+            page.to_str().unwrap(),
+            &format!("{name}.rules"),
+        ];
+        assert_eq!(printed(&arguments), file(&format!("{name}.end")));
+        let page = fs::read_to_string(page).unwrap();
+        for outside in ["<script", "src=", "href=", "http", "@import", "url("] {
+            assert!(!page.contains(outside), "{name}: {outside}");
+        }
+        for line in file(&format!("{name}.end"))
+            .lines()
+            .filter(|l| l.starts_with("  (a "))
+        {
+            assert!(page.contains(line.trim()), "{name}: {line}");
+        }
+    }
+}
+
+const FILES: [(&str, &[u8]); 7] = [
+    ("undeclared.rules", b"= red c1\n(red\n  blue)"),
+    ("torn.csexp", b"((1:c1:1)"),
+    ("newline.csexp", b"((1:c1:1))\n"),
+    ("two-faults.csexp", b"((1:c2:01)(1:z))"),
+    ("incoherent.csexp", b"((1:a(1:L1:0())(1:L1:0((1:c1:1)))))"),
+    ("incoherent.rules", b"((a (L 0 ())\n    (L 0 (c1))))"),
+    ("latin-1.rules", b"; caf\xe9\n()"),
+];
+
+#[test]
+fn bad_input() {
+    let folder = own("bad");
+    for (name, content) in FILES {
+        fs::write(folder.join(name), content).unwrap();
+    }
+    let cases = [
+        ("no-such-file", "no-such-file:1:1: cannot be read: "),
+        (".", ".:1:1: cannot be read: "),
+        ("undeclared.rules", "undeclared.rules:3:3: blue is not declared\n"),
+        (
+            "torn.csexp",
+            "torn.csexp:1:10: '(' or ')' must stand here, and the text ends\n  a switch refuses it: not canonical (3): ",
+        ),
+        (
+            "newline.csexp",
+            "newline.csexp:1:11: the text goes on behind the program\n  a switch refuses it: not canonical (3): ",
+        ),
+        (
+            "two-faults.csexp",
+            "two-faults.csexp:1:6: a plain decimal from 0 to 65535 must stand here\n  a switch refuses it: out of place (4): ",
+        ),
+        (
+            "incoherent.csexp",
+            "incoherent.csexp:1:17: location 0 has two different bodies in one thread\n  a switch refuses it: incoherent (8): ",
+        ),
+        (
+            "incoherent.rules",
+            "incoherent.rules:2:6: location 0 has two different bodies in one thread\n",
+        ),
+        ("latin-1.rules", "latin-1.rules:1:6: a character of UTF-8 must stand here\n"),
+    ];
+    for (name, message) in cases {
+        let arguments = ["run", "--trace", "--html", "page.html", name];
+        let said = complaint(&folder, &arguments, 1);
+        assert!(said.starts_with(message), "{said}");
+        assert!(!folder.join("page.html").exists(), "{name}");
+    }
+    for (name, content) in FILES {
+        assert_eq!(fs::read(folder.join(name)).unwrap(), content, "{name}");
+    }
+}
+
+#[test]
+fn bad_input_of_text_and_show() {
+    let cases: [(&[&str], &str); 5] = [
+        (
+            &["text", "two-tenants.csexp"],
+            "two-tenants.csexp:1:3: a tag",
+        ),
+        (
+            &["text", "no-such-file"],
+            "no-such-file:1:1: cannot be read: ",
+        ),
+        (
+            &["show", "two-tenants.rules"],
+            "two-tenants.rules:1:1: '(' must",
+        ),
+        (
+            &["show", "two-tenants.csexp", "no-such-file"],
+            "no-such-file:1:1: cannot be read: ",
+        ),
+        (
+            &["show", "two-tenants.csexp", "leaf-48.csexp"],
+            "leaf-48.csexp:1:3: a tag",
+        ),
+    ];
+    for (arguments, message) in cases {
+        let said = complaint(&folder(), arguments, 1);
+        assert!(said.starts_with(message), "{said}");
+    }
+}
+
+/// A page that cannot be written, or that would be written over the rule set.
+#[test]
+fn bad_page() {
+    let folder = own("bad-page");
+    let set = file("two-tenants.rules");
+    fs::write(folder.join("set.rules"), &set).unwrap();
+    let said = complaint(
+        &folder,
+        &["run", "--html", "none/page.html", "set.rules"],
+        1,
+    );
+    assert!(said.starts_with("none/page.html: "), "{said}");
+    let said = complaint(&folder, &["run", "--html", "./set.rules", "set.rules"], 1);
+    assert!(said.ends_with("is the rule set itself\n"), "{said}");
+    assert_eq!(fs::read_to_string(folder.join("set.rules")).unwrap(), set);
+}
+
+#[test]
+fn bad_words() {
+    let cases: [&[&str]; 8] = [
+        &[],
+        &["walk"],
+        &["text"],
+        &["run"],
+        &["run", "--html"],
+        &["run", "--trance", "two-tenants.rules"],
+        &["run", "two-tenants.rules", "leaf-48.rules"],
+        &["show", "a", "b", "c"],
+    ];
+    for arguments in cases {
+        let said = complaint(&folder(), arguments, 2);
+        assert!(said.starts_with("rules text FILE"), "{said}");
+    }
+    assert!(printed(&["--help"]).starts_with("rules text FILE"));
+    assert!(printed(&["--version"]).starts_with("rules "));
+}
