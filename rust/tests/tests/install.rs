@@ -182,12 +182,13 @@ fn archives_that_are_there_stay() {
     assert_eq!(times(), before);
 }
 
-/// A stand-in for rt: of the same version, but it proves nothing.
-const RT: &str = "#!/bin/sh
-[ \"$1\" != version ] || exec cat \"$(dirname \"$0\")/../KIT-ID\"
-echo \"rt was called: $*\"
-exit 1
-";
+/// A stand-in for rt: of the same version, but it proves nothing. Where kit/archive is there it makes that the archive, after a while.
+const RT: &str = r#"#!/bin/sh
+kit=$(dirname "$0")/..
+[ "$1" != version ] || exec cat "$kit/KIT-ID"
+echo "rt was called: $*" | tee -a "$kit/calls"
+[ -f "$kit/archive" ] && sleep 1 && cp "$kit/archive" target/staticlib/libmespindro.a
+"#;
 
 /// A copy of all that tools/archive and tools/install read, with the archives; in kit/ is the stand-in.
 struct Copy {
@@ -214,8 +215,7 @@ impl Copy {
             let mut cp = Command::new("cp");
             printed(cp.arg("-R").arg(root().join(part)).arg(copy.file(part)));
         }
-        fs::write(copy.file("kit/bin/rt"), RT).unwrap();
-        printed(Command::new("chmod").arg("+x").arg(copy.file("kit/bin/rt")));
+        copy.program("kit/bin/rt", RT);
         let version = printed(Command::new("rt").arg("version"));
         fs::write(copy.file("kit/KIT-ID"), version).unwrap();
         copy
@@ -223,6 +223,11 @@ impl Copy {
 
     fn file(&self, name: &str) -> PathBuf {
         self.folder.0.join(name)
+    }
+
+    fn program(&self, name: &str, script: &str) {
+        fs::write(self.file(name), script).unwrap();
+        printed(Command::new("chmod").arg("+x").arg(self.file(name)));
     }
 
     fn stamp(&self) -> PathBuf {
@@ -298,6 +303,27 @@ fn archives_are_made_again_where_something_has_changed() {
     }
     fs::remove_file(copy.file("target/native/libmespindro.a")).unwrap();
     copy.assert_made("an archive that is gone");
+}
+
+#[test]
+fn two_at_once_make_the_archives_once() {
+    let copy = Copy::new("twice");
+    // on x86-64 what rt makes is all that is made
+    copy.program("kit/bin/uname", "#!/bin/sh\necho x86_64\n");
+    fs::write(copy.file("kit/archive"), "new").unwrap();
+    std::thread::scope(|scope| {
+        for call in [(); 2].map(|()| scope.spawn(|| copy.archive())) {
+            let output = call.join().unwrap();
+            assert!(output.status.success(), "{}", errors(&output));
+        }
+    });
+    let calls = fs::read_to_string(copy.file("kit/calls")).unwrap();
+    assert_eq!(calls, "rt was called: staticlib mespindro\n");
+    for archive in ["native", "staticlib"] {
+        let file = copy.file("target").join(archive).join("libmespindro.a");
+        assert_eq!(fs::read_to_string(file).unwrap(), "new");
+    }
+    assert_kept(&copy.archive(), "a third call");
 }
 
 #[test]
