@@ -8,7 +8,7 @@ say() {
     echo "$*" >&2
 }
 
-# Waits until no other tool is at work here: two would write the same files. The lock is held until this tool has ended.
+# Waits until no other tool is at work here: two would write the same files. The lock is held until `exec 9>&-` or this tool's end.
 alone() {
     mkdir -p target
     exec 9> target/lock
@@ -38,17 +38,16 @@ crates_of() {
 }
 
 # prove NAME LOG WORDS..: runs WORDS, an rt that proves NAME and what it uses. What it says goes to LOG, whose end is shown where it fails.
-prove() (
-    name=$1 log=$2 status=0
+prove() {
+    local name=$1 log=$2 status=0
     shift 2
     : > "$log"
-    trap end_progress EXIT
     begin_progress "$log" "$(crates_of "$name" | wc -l)"
     "$@" < /dev/null > "$log" 2>&1 || status=$?
     end_progress
     [ "$status" -eq 0 ] || { tail -n 20 "$log"; echo "tools/${0##*/}: this is the end of $log"; } >&2
-    exit "$status"
-)
+    return "$status"
+}
 
 # begin_progress LOG CRATES: on a terminal one line, written anew each second; elsewhere nothing.
 begin_progress() {
@@ -69,3 +68,6 @@ end_progress() {
     progress=
     printf '\r\033[K' >&2
 }
+
+# a tool that is broken off leaves no half of a line
+trap end_progress EXIT

@@ -182,14 +182,15 @@ fn archives_that_are_there_stay() {
     assert_eq!(times(), before);
 }
 
-/// A stand-in for rt: of the same version, but it proves nothing.
-const RT: &str = "#!/bin/sh
-[ \"$1\" != version ] || exec cat \"$(dirname \"$0\")/../KIT-ID\"
-echo \"rt was called: $*\"
-exit 1
-";
+/// A stand-in for rt: of the same version, but it proves nothing. Where kit/archive is there it makes that the archive, after a while.
+const RT: &str = r#"#!/bin/sh
+kit=$(dirname "$0")/..
+[ "$1" != version ] || exec cat "$kit/KIT-ID"
+echo "rt was called: $*" | tee -a "$kit/calls"
+[ -f "$kit/archive" ] && sleep 1 && cp "$kit/archive" target/staticlib/libmespindro.a
+"#;
 
-/// A copy of all that tools/archive reads, with the archives; in kit/ is the stand-in.
+/// A copy of all that tools/archive and tools/install read, with the archives; in kit/ is the stand-in.
 struct Copy {
     folder: Folder,
 }
@@ -199,11 +200,14 @@ impl Copy {
         assert!(tools_archive().status.success());
         let folder = Folder::new(name);
         let copy = Copy { folder };
-        fs::create_dir(copy.file("target")).unwrap();
+        for folder in ["target", "rust", "kit", "kit/bin"] {
+            fs::create_dir(copy.file(folder)).unwrap();
+        }
         for part in [
             "crates",
             "crates.txt",
             "include",
+            "rust/Cargo.toml",
             "tools",
             "target/native",
             "target/staticlib",
@@ -211,9 +215,7 @@ impl Copy {
             let mut cp = Command::new("cp");
             printed(cp.arg("-R").arg(root().join(part)).arg(copy.file(part)));
         }
-        fs::create_dir_all(copy.file("kit/bin")).unwrap();
-        fs::write(copy.file("kit/bin/rt"), RT).unwrap();
-        printed(Command::new("chmod").arg("+x").arg(copy.file("kit/bin/rt")));
+        copy.program("kit/bin/rt", RT);
         let version = printed(Command::new("rt").arg("version"));
         fs::write(copy.file("kit/KIT-ID"), version).unwrap();
         copy
@@ -223,16 +225,28 @@ impl Copy {
         self.folder.0.join(name)
     }
 
+    fn program(&self, name: &str, script: &str) {
+        fs::write(self.file(name), script).unwrap();
+        printed(Command::new("chmod").arg("+x").arg(self.file(name)));
+    }
+
     fn stamp(&self) -> PathBuf {
         self.file("target/native/stamp")
     }
 
-    fn archive(&self) -> Output {
+    /// One of its tools, with the stand-in for rt.
+    fn tool(&self, name: &str) -> Command {
         let rest = std::env::var("PATH").unwrap();
         let path = format!("{}:{rest}", self.file("kit/bin").display());
-        let mut tool = Command::new(self.file("tools/archive"));
-        let tool = tool.env("PATH", path).env_remove("RATTLE_HOME");
-        tool.output().unwrap()
+        // by the shell's name: a file that was just written may be busy for a start by its own
+        let mut tool = Command::new("bash");
+        tool.arg(self.file(name));
+        tool.env("PATH", path).env_remove("RATTLE_HOME");
+        tool
+    }
+
+    fn archive(&self) -> Output {
+        self.tool("tools/archive").output().unwrap()
     }
 
     /// It sets out to make the archives, says so first, and fails as the stand-in does.
@@ -289,4 +303,36 @@ fn archives_are_made_again_where_something_has_changed() {
     }
     fs::remove_file(copy.file("target/native/libmespindro.a")).unwrap();
     copy.assert_made("an archive that is gone");
+}
+
+#[test]
+fn two_at_once_make_the_archives_once() {
+    let copy = Copy::new("twice");
+    // on x86-64 what rt makes is all that is made
+    copy.program("kit/bin/uname", "#!/bin/sh\necho x86_64\n");
+    fs::write(copy.file("kit/archive"), "new").unwrap();
+    std::thread::scope(|scope| {
+        for call in [(); 2].map(|()| scope.spawn(|| copy.archive())) {
+            let output = call.join().unwrap();
+            assert!(output.status.success(), "{}", errors(&output));
+        }
+    });
+    let calls = fs::read_to_string(copy.file("kit/calls")).unwrap();
+    assert_eq!(calls, "rt was called: staticlib mespindro\n");
+    for archive in ["native", "staticlib"] {
+        let file = copy.file("target").join(archive).join("libmespindro.a");
+        assert_eq!(fs::read_to_string(file).unwrap(), "new");
+    }
+    assert_kept(&copy.archive(), "a third call");
+}
+
+#[test]
+fn nothing_is_installed_without_an_archive() {
+    let copy = Copy::new("without");
+    let prefix = copy.file("prefix");
+    fs::remove_file(copy.stamp()).unwrap();
+    let mut install = copy.tool("tools/install");
+    let output = install.arg(&prefix).output().unwrap();
+    assert_eq!(output.status.code(), Some(1), "{}", errors(&output));
+    assert!(!prefix.exists());
 }
