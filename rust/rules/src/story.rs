@@ -89,6 +89,6 @@ impl Story {
 }
 
 /// How many threads of an end stand so.
-pub fn how_many(threads: &[(Standing, Term)], standing: Standing) -> usize {
+pub(crate) fn how_many(threads: &[(Standing, Term)], standing: Standing) -> usize {
     threads.iter().filter(|(s, _)| *s == standing).count()
 }

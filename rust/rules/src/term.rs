@@ -93,7 +93,7 @@ pub fn same(program: &[Term], other: &[Term]) -> bool {
 }
 
 /// The alternatives in a part of the library's own table, without the end of their list.
-pub fn of_nodes(nodes: &[u16]) -> Program {
+pub(crate) fn of_nodes(nodes: &[u16]) -> Program {
     take_alternatives(&mut &*nodes)
 }
 
@@ -168,7 +168,7 @@ pub fn free_variables(term: &Term) -> BTreeMap<u16, Name> {
 }
 
 /// The allocated abstractions anywhere in a term, bodies included, by their locations.
-pub fn closures(term: &Term) -> BTreeMap<u16, &Term> {
+pub(crate) fn closures(term: &Term) -> BTreeMap<u16, &Term> {
     let mut found = BTreeMap::new();
     each_term(term, 0, &mut |part, _| {
         if let Allocated(location, ..) = part {
@@ -179,7 +179,7 @@ pub fn closures(term: &Term) -> BTreeMap<u16, &Term> {
 }
 
 /// The locations anywhere in a term, bodies included, with the names of what their rules ask for.
-pub fn closure_names(term: &Term) -> BTreeMap<u16, Name> {
+pub(crate) fn closure_names(term: &Term) -> BTreeMap<u16, Name> {
     let names = closures(term)
         .into_iter()
         .map(|(location, closure)| match closure {
