@@ -109,8 +109,25 @@ fn own() -> Result<(PathBuf, PathBuf), String> {
     }
     // .cargo/config.toml tells what for
     println!("cargo:rerun-if-env-changed=MESPINDRO_REPOSITORY");
+    println!("cargo:rerun-if-env-changed=RATTLE_HOME");
+    if let Some(version) = toolchain_version() {
+        println!("cargo:rerun-if-changed={}", version.display());
+    }
     make(root)?;
     Ok((archive, root.join("include")))
+}
+
+/// The file with the toolchain's version, by which tools/archive goes too; none where it has another shape than today's.
+fn toolchain_version() -> Option<PathBuf> {
+    let path = env::var_os("PATH")?;
+    let rt = env::split_paths(&path).map(|folder| folder.join("rt"));
+    let rt = rt
+        .into_iter()
+        .find(|rt| rt.is_file())?
+        .canonicalize()
+        .ok()?;
+    let version = rt.parent()?.parent()?.join("KIT-ID");
+    version.is_file().then_some(version)
 }
 
 /// Where tools/archive puts the archive for the machine that is compiled for.

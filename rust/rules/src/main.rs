@@ -11,8 +11,7 @@ use std::process::ExitCode;
 
 use page_file::PageFile;
 use rules::notation::{self, Error, Names};
-use rules::page::page;
-use rules::run::{describe, is_canonical, run, run_seen, End, RuleSet, STEPS};
+use rules::run::{describe, is_canonical, run_seen, RuleSet, STEPS};
 use rules::story::Story;
 use rules::trace;
 
@@ -70,7 +69,9 @@ fn command(words: &[OsString]) -> Result<(), Failure> {
     };
     match (verb.to_str().unwrap_or(""), rest) {
         ("help" | "--help" | "-h", _) => print(USAGE.as_bytes()),
-        (_, [.., last]) if last == "--help" || last == "-h" => print(USAGE.as_bytes()),
+        ("text" | "show" | "run", [word]) if word == "--help" || word == "-h" => {
+            print(USAGE.as_bytes())
+        }
         ("--version", []) => print(concat!("rules ", env!("CARGO_PKG_VERSION"), "\n").as_bytes()),
         ("text", [file]) => print(&text(Path::new(file))?),
         ("show", [file]) => print(&show(Path::new(file), &Names::default())?),
@@ -133,16 +134,8 @@ fn declared(file: &Path) -> Result<Names, Failure> {
 fn show(file: &Path, names: &Names) -> Result<Vec<u8>, Failure> {
     let content = content(file)?;
     let form = notation::from_text_named(&content, names);
-    let form = form.map_err(|error| match is_readable(&content) {
-        true => wrong(file, "this is a readable form, not a canonical text"),
-        false => refused(file, &content, &error),
-    })?;
+    let form = form.map_err(|error| no_text(file, &content, &error))?;
     Ok(form.into_bytes())
-}
-
-fn is_readable(content: &[u8]) -> bool {
-    let read = notation::utf8(content).and_then(notation::read);
-    !is_canonical(content) && !content.starts_with(b"()") && read.is_ok()
 }
 
 /// Either form: a canonical text by the file's name, or where it begins like one.
@@ -150,18 +143,27 @@ fn rule_set(file: &Path) -> Result<RuleSet, Failure> {
     let content = content(file)?;
     let by_name = file.extension().is_some_and(|end| end == "csexp");
     if by_name || is_canonical(&content) {
-        return RuleSet::of_text(&content).map_err(|error| refused(file, &content, &error));
+        return RuleSet::of_text(&content).map_err(|error| no_text(file, &content, &error));
     }
     RuleSet::of(&content).map_err(|error| at(file, &error))
 }
 
 /// Where a canonical text is wrong, and the library's own word, which a switch tells by its number.
-fn refused(file: &Path, content: &[u8], error: &Error) -> Failure {
+fn no_text(file: &Path, content: &[u8], error: &Error) -> Failure {
+    if is_readable(content) {
+        return wrong(file, "this is a readable form, not a canonical text");
+    }
     let mut failure = at(file, error);
     if let Err(refusal) = mespindro::read(content, &mut [0; mespindro::TABLE]) {
         failure.message += &format!("  a switch refuses it: {refusal}\n");
     }
     failure
+}
+
+/// Whether a content is a readable form, and not just a text with a fault that such a form may have: `()` and a newline.
+fn is_readable(content: &[u8]) -> bool {
+    let read = notation::utf8(content).and_then(notation::read);
+    !is_canonical(content) && !content.starts_with(b"()") && read.is_ok()
 }
 
 // ---- Running.
@@ -184,12 +186,10 @@ impl Asked {
                 Some("--") => options = false,
                 Some("--trace") => trace = true,
                 Some("--html") if page.is_none() => {
-                    let next = words
-                        .next()
-                        .filter(|w| !w.to_string_lossy().starts_with("--"));
+                    let next = words.next().filter(|word| is_file_name(word));
                     page = Some(PathBuf::from(next.ok_or_else(usage)?));
                 }
-                None if file.is_none() => file = Some(PathBuf::from(word)),
+                None if file.is_none() && !word.is_empty() => file = Some(PathBuf::from(word)),
                 _ => return Err(usage()),
             }
         }
@@ -199,54 +199,53 @@ impl Asked {
 
     fn run(&self) -> Result<(), Failure> {
         let rule_set = rule_set(&self.file)?;
-        let page = match &self.page {
-            Some(page) => Some(self.begin_page(page)?),
-            None => None,
-        };
+        match &self.page {
+            None => self.tell(&rule_set),
+            Some(page) => self.tell_with_page(&rule_set, page),
+        }
+    }
+
+    /// Tells each step, if that is asked for, as it is made, and the end.
+    fn tell(&self, rule_set: &RuleSet) -> Result<(), Failure> {
         let mut out = io::BufWriter::new(io::stdout().lock());
         let mut done = Ok(());
-        let mut story = Story::new(&rule_set);
         let width = width();
-        let watched = self.trace || page.is_some();
-        let end = match watched {
-            false => run(&rule_set, STEPS),
-            true => run_seen(&rule_set, STEPS, &mut |step| {
-                if self.trace && done.is_ok() {
-                    let told = trace::step(step, &rule_set.names, width);
-                    done = out.write_all(told.as_bytes());
-                }
-                if page.is_some() {
-                    story.step(step, &rule_set.names);
-                }
-            }),
-        };
+        let end = run_seen(rule_set, STEPS, &mut |step| {
+            if self.trace && done.is_ok() {
+                let told = trace::step(step, &rule_set.names, width);
+                done = out.write_all(told.as_bytes());
+            }
+        });
         let end = end.map_err(|refusal| wrong(&self.file, refusal))?;
-        if let Some(file) = page {
-            self.end_page(file, &story, &end, &rule_set.names)?;
-        }
         let told = describe(&end, &rule_set.names);
         let done = done.and_then(|()| out.write_all(told.as_bytes()));
         written(done.and_then(|()| out.flush()))
     }
 
-    /// Before anything is printed: a page that cannot be written is told at once.
-    fn begin_page(&self, page: &Path) -> Result<PageFile, Failure> {
-        let begun = PageFile::begin(page, &self.file);
-        begun.map_err(|error| failure(format!("{}: {error}\n", page.display())))
-    }
-
-    fn end_page(
-        &self,
-        file: PageFile,
-        story: &Story,
-        end: &End,
-        names: &Names,
-    ) -> Result<(), Failure> {
-        let place = file.place().display().to_string();
+    /// Writes the page, and tells the rest when that is done: where the page cannot be written nothing is printed.
+    fn tell_with_page(&self, rule_set: &RuleSet, page: &Path) -> Result<(), Failure> {
+        let cannot = |error: io::Error| failure(format!("{}: {error}\n", page.display()));
+        let file = PageFile::begin(page, &self.file).map_err(cannot)?;
+        let mut told = String::new();
+        let mut story = Story::new(rule_set);
+        let width = width();
+        let end = run_seen(rule_set, STEPS, &mut |step| {
+            story.step(step, &rule_set.names);
+            if self.trace {
+                told += &trace::step(step, &rule_set.names, width);
+            }
+        });
+        let end = end.map_err(|refusal| wrong(&self.file, refusal))?;
         let title = self.file.display().to_string();
-        let done = file.end(&page(&title, story, end, names));
-        done.map_err(|error| failure(format!("{place}: {error}\n")))
+        let page = rules::page::page(&title, &story, &end, &rule_set.names);
+        file.end(&page).map_err(cannot)?;
+        told += &describe(&end, &rule_set.names);
+        print(told.as_bytes())
     }
+}
+
+fn is_file_name(word: &OsString) -> bool {
+    !word.is_empty() && !word.to_string_lossy().starts_with("--")
 }
 
 /// A screen's width, where it was told, but for one on which nothing could be read.

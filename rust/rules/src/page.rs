@@ -8,15 +8,18 @@ use std::fmt::Write;
 use mespindro::{Reason, Rule, Standing, NODES};
 
 use crate::notation::{line, show, Names};
-use crate::run::{missing, End};
+use crate::run::{missing, nothing_left, End};
 use crate::story::{how_many, Branch, Fate, Story};
 use crate::term::Term;
+
+/// What every page begins with, and nothing else does.
+pub const BEGIN: &str = "<!doctype html>\n<!-- a run, told by rules -->\n";
 
 /// The page of a run; `title` is the rule set's.
 pub fn page(title: &str, story: &Story, end: &End, names: &Names) -> String {
     let title = escaped(title);
     let mut out = format!(
-        "<!doctype html>\n<html lang=\"en\">\n<meta charset=\"utf-8\">\n<meta name=\"viewport\" content=\"width=device-width\">\n\
+        "{BEGIN}<html lang=\"en\">\n<meta charset=\"utf-8\">\n<meta name=\"viewport\" content=\"width=device-width\">\n\
          <title>{title}</title>\n<style>\n{}</style>\n<h1>{title}</h1>\n",
         include_str!("page/style.css")
     );
@@ -109,9 +112,7 @@ fn verdict(story: &Story, end: &End) -> String {
 fn threads(end: &End, names: &Names) -> String {
     let mut out = "<h2>What came of it</h2>\n".to_string();
     if end.threads.is_empty() {
-        out +=
-            "<p>No alternative is left: every one was dropped, and the request cannot be met.</p>\n";
-        return out;
+        return out + &format!("<p>{}: the request cannot be met.</p>\n", nothing_left(end));
     }
     if end.stop.reason == Reason::Ended {
         out += "<p>Only an answer may be placed. Of any other it is said what is missing.</p>\n";

@@ -5,13 +5,12 @@ use std::io::{self, Read, Write};
 use std::os::unix::fs::MetadataExt;
 use std::path::{Path, PathBuf};
 
-/// What every page begins with.
-const BEGIN: &[u8] = b"<!doctype html>";
+use rules::page::BEGIN;
 
 /// A page that is being written.
 pub struct PageFile {
     place: PathBuf,
-    /// Where it is written until it is whole; none for a device or a link, which is written as it is.
+    /// Where it is written until it is whole; none for a device, which is written as it is.
     beside: Option<PathBuf>,
     file: File,
 }
@@ -19,40 +18,45 @@ pub struct PageFile {
 impl PageFile {
     /// Opens a file for the page of a rule set.
     pub fn begin(place: &Path, rule_set: &Path) -> io::Result<PageFile> {
-        let found = fs::symlink_metadata(place).ok();
-        if place.exists() {
-            may_be_replaced(place, rule_set)?;
+        let place = behind_links(place)?;
+        let found = fs::metadata(&place).ok();
+        if found
+            .as_ref()
+            .is_some_and(|found| !found.is_file() && !found.is_dir())
+        {
+            let file = OpenOptions::new().write(true).open(&place)?;
+            let beside = None;
+            return Ok(PageFile {
+                place,
+                beside,
+                file,
+            });
         }
-        let plain = found.map_or(true, |found| found.is_file());
-        let beside = plain.then(|| {
-            let mut name = place.as_os_str().to_owned();
-            name.push(".new");
-            PathBuf::from(name)
-        });
-        let file = match &beside {
-            Some(beside) => File::create(beside)?,
-            None => OpenOptions::new().write(true).open(place)?,
-        };
+        if let Some(found) = found {
+            may_be_replaced(&place, &found, rule_set)?;
+        }
+        let beside = beside(&place);
+        let file = OpenOptions::new()
+            .write(true)
+            .create_new(true)
+            .open(&beside)?;
+        let beside = Some(beside);
         Ok(PageFile {
-            place: place.to_path_buf(),
+            place,
             beside,
             file,
         })
-    }
-
-    /// Where it goes.
-    pub fn place(&self) -> &Path {
-        &self.place
     }
 
     /// Writes the page and puts it in its place.
     pub fn end(mut self, page: &str) -> io::Result<()> {
         self.file.write_all(page.as_bytes())?;
         self.file.flush()?;
-        match self.beside.take() {
-            Some(beside) => fs::rename(beside, &self.place),
-            None => Ok(()),
+        if let Some(beside) = &self.beside {
+            fs::rename(beside, &self.place)?;
+            self.beside = None;
         }
+        Ok(())
     }
 }
 
@@ -65,25 +69,42 @@ impl Drop for PageFile {
     }
 }
 
-/// A page takes the place of a page, or of an empty file; never that of the rule set or of other work.
-fn may_be_replaced(place: &Path, rule_set: &Path) -> io::Result<()> {
-    let (old, set) = (fs::metadata(place)?, fs::metadata(rule_set)?);
-    if (old.dev(), old.ino()) == (set.dev(), set.ino()) {
-        return Err(io::Error::new(
-            io::ErrorKind::AlreadyExists,
-            "is the rule set itself",
-        ));
+/// A link stays a link: the page is put where it leads.
+fn behind_links(place: &Path) -> io::Result<PathBuf> {
+    match fs::symlink_metadata(place) {
+        Ok(found) if found.is_symlink() => fs::canonicalize(place),
+        _ => Ok(place.to_path_buf()),
     }
-    if !old.is_file() || old.len() == 0 {
+}
+
+/// A name that no other run has, in the same folder, so that it can be put in its place in one go.
+fn beside(place: &Path) -> PathBuf {
+    let name = place.file_name().unwrap_or_default().to_string_lossy();
+    place.with_file_name(format!(".{name}.{}.new", std::process::id()))
+}
+
+/// A page takes the place of a page, or of an empty file; never that of the rule set or of other work.
+fn may_be_replaced(place: &Path, found: &fs::Metadata, rule_set: &Path) -> io::Result<()> {
+    let refused = |message| Err(io::Error::new(io::ErrorKind::AlreadyExists, message));
+    let is = |other: &Path| {
+        fs::metadata(other).is_ok_and(|o| (o.dev(), o.ino()) == (found.dev(), found.ino()))
+    };
+    if found.is_dir() {
+        return refused("is a folder");
+    }
+    if is(rule_set) {
+        return refused("is the rule set itself");
+    }
+    if is(Path::new("/proc/self/fd/1")) {
+        return refused("is standard output, where the end is told");
+    }
+    if found.len() == 0 {
         return Ok(());
     }
-    let mut begin = [0; BEGIN.len()];
-    let mut file = File::open(place)?;
-    match file.read_exact(&mut begin) {
-        Ok(()) if begin == BEGIN => Ok(()),
-        _ => Err(io::Error::new(
-            io::ErrorKind::AlreadyExists,
-            "is there and is no page",
-        )),
+    let mut begin = vec![0; BEGIN.len()];
+    let read = File::open(place)?.read_exact(&mut begin);
+    match read.is_ok() && begin == BEGIN.as_bytes() {
+        true => Ok(()),
+        false => refused("is there and is no page"),
     }
 }

@@ -98,7 +98,8 @@ pub fn describe(end: &End, names: &Names) -> String {
     } = end.stop;
     let mut out = format!("{reason}, {steps} steps, {nodes} nodes\n  {counts}\n");
     if end.threads.is_empty() {
-        out += "no thread is left: every alternative was dropped\n";
+        out += nothing_left(end);
+        out.push('\n');
     }
     for k in 0..end.threads.len() {
         let (standing, term) = &end.threads[k];
@@ -111,6 +112,14 @@ pub fn describe(end: &End, names: &Names) -> String {
         out.push('\n');
     }
     out
+}
+
+/// An end without threads, in words.
+pub(crate) fn nothing_left(end: &End) -> &'static str {
+    match end.stop.steps {
+        0 => "the rule set has no alternative",
+        _ => "no thread is left: every alternative was dropped",
+    }
 }
 
 /// What a thread of an end lacks to be an answer, for people; none where it is one.

@@ -148,7 +148,7 @@ fn page() {
     }
 }
 
-const FILES: [(&str, &[u8]); 7] = [
+const FILES: [(&str, &[u8]); 8] = [
     ("undeclared.rules", b"= red c1\n(red\n  blue)"),
     ("torn.csexp", b"((1:c1:1)"),
     ("newline.csexp", b"((1:c1:1))\n"),
@@ -156,6 +156,7 @@ const FILES: [(&str, &[u8]); 7] = [
     ("incoherent.csexp", b"((1:a(1:L1:0())(1:L1:0((1:c1:1)))))"),
     ("incoherent.rules", b"((a (L 0 ())\n    (L 0 (c1))))"),
     ("latin-1.rules", b"; caf\xe9\n()"),
+    ("readable.csexp", b"(c1)"),
 ];
 
 #[test]
@@ -247,6 +248,7 @@ fn the_empty_program() {
             let output = rules(&folder, &["run", name]);
             let printed = String::from_utf8(output.stdout).unwrap();
             assert!(printed.starts_with(ended), "{name}: {printed}");
+            assert!(printed.ends_with("the rule set has no alternative\n"));
         } else {
             let said = complaint(&folder, &["run", name], 1);
             assert!(said.contains("not canonical (3)"), "{said}");
@@ -272,16 +274,26 @@ fn bad_page() {
     for name in ["set.rules", "other.rules"] {
         fs::write(folder.join(name), &set).unwrap();
     }
+    fs::write(
+        folder.join("home.html"),
+        "<!doctype html>\n<title>Home</title>\n",
+    )
+    .unwrap();
     fs::hard_link(folder.join("set.rules"), folder.join("link")).unwrap();
     std::os::unix::fs::symlink("set.rules", folder.join("soft-link")).unwrap();
+    std::os::unix::fs::symlink("nothing", folder.join("dangling")).unwrap();
     fs::create_dir(folder.join("folder")).unwrap();
+    let there = fs::read_dir(&folder).unwrap().count();
     let cases = [
         ("none/page.html", ""),
-        ("folder", ""),
+        ("dangling", ""),
+        ("folder", "is a folder\n"),
+        ("/dev/full", ""),
         ("./set.rules", "is the rule set itself\n"),
         ("link", "is the rule set itself\n"),
         ("soft-link", "is the rule set itself\n"),
         ("other.rules", "is there and is no page\n"),
+        ("home.html", "is there and is no page\n"),
     ];
     for (page, message) in cases {
         let arguments = ["run", "--trace", "--html", page, "set.rules"];
@@ -291,22 +303,54 @@ fn bad_page() {
     for name in ["set.rules", "other.rules"] {
         assert_eq!(fs::read_to_string(folder.join(name)).unwrap(), set);
     }
-    assert_eq!(fs::read_dir(&folder).unwrap().count(), 5);
+    assert_eq!(fs::read_dir(&folder).unwrap().count(), there);
 }
 
-/// A page is written again over itself, and through a link or into a device.
+/// A page is written over a longer one, through a link, over an empty file and into a device; what stands beside it stays.
 #[test]
 fn pages_again() {
     let folder = own("again");
-    fs::write(folder.join("set.rules"), file("two-tenants.rules")).unwrap();
-    std::os::unix::fs::symlink("page.html", folder.join("link.html")).unwrap();
-    for page in ["page.html", "page.html", "link.html", "/dev/null"] {
-        let output = rules(&folder, &["run", "--html", page, "set.rules"]);
-        assert!(output.status.success(), "{page}: {output:?}");
+    for name in ["leaf-48", "two-tenants"] {
+        fs::copy(
+            self::folder().join(format!("{name}.rules")),
+            folder.join(name),
+        )
+        .unwrap();
     }
-    let page = fs::read_to_string(folder.join("page.html")).unwrap();
-    assert!(page.ends_with("</table>\n"), "{page}");
-    assert_eq!(fs::read_dir(&folder).unwrap().count(), 3);
+    std::os::unix::fs::symlink("page.html", folder.join("link.html")).unwrap();
+    fs::write(folder.join("empty.html"), "").unwrap();
+    fs::write(folder.join("page.html.new"), "mine").unwrap();
+    let written = |page: &str, name: &str| {
+        let output = rules(&folder, &["run", "--html", page, name]);
+        assert!(output.status.success(), "{page}: {output:?}");
+    };
+    written("page.html", "two-tenants");
+    let short = fs::read(folder.join("page.html")).unwrap();
+    for page in ["page.html", "link.html"] {
+        written("page.html", "leaf-48");
+        assert!(fs::read(folder.join("page.html")).unwrap().len() > short.len());
+        written(page, "two-tenants");
+        assert_eq!(fs::read(folder.join("page.html")).unwrap(), short);
+    }
+    written("empty.html", "two-tenants");
+    written("/dev/null", "two-tenants");
+    assert!(fs::symlink_metadata(folder.join("link.html"))
+        .unwrap()
+        .is_symlink());
+    assert_eq!(fs::read(folder.join("page.html.new")).unwrap(), b"mine");
+    assert_eq!(fs::read_dir(&folder).unwrap().count(), 6);
+}
+
+/// A file that is standard output already is not written twice.
+#[test]
+fn page_on_standard_output() {
+    let folder = own("output");
+    let out = fs::File::create(folder.join("out")).unwrap();
+    let mut command = Command::new(env!("CARGO_BIN_EXE_rules"));
+    let command = command.args(["run", "--html", "/dev/stdout", "two-tenants.rules"]);
+    let command = command.current_dir(self::folder()).stdout(out);
+    assert_eq!(command.status().unwrap().code(), Some(1));
+    assert_eq!(fs::read(folder.join("out")).unwrap(), b"");
 }
 
 /// A screen's width: as it is told, but at least 40.
@@ -347,7 +391,10 @@ fn a_name_of_bytes() {
 
 #[test]
 fn bad_words() {
-    let cases: [&[&str]; 10] = [
+    let cases: [&[&str]; 13] = [
+        &["walk", "-h"],
+        &["run", ""],
+        &["run", "--html", "", "two-tenants.rules"],
         &["run", "--html", "--trace", "two-tenants.rules"],
         &["run", "--", "--trace", "two-tenants.rules"],
         &[],
@@ -373,5 +420,7 @@ fn bad_words() {
         assert!(printed(help).starts_with("rules text FILE"));
     }
     printed(&["run", "--", "two-tenants.rules"]);
+    let said = complaint(&folder(), &["run", "--", "--help"], 1);
+    assert!(said.starts_with("--help:1:1: cannot be read"), "{said}");
     assert!(printed(&["--version"]).starts_with("rules "));
 }

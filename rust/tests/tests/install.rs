@@ -146,13 +146,18 @@ fn a_bad_call_writes_nothing() {
 fn a_prefix_that_cannot_be_written() {
     let folder = Folder::new("file");
     fs::write(folder.0.join("file"), "as it was").unwrap();
-    for prefix in ["file", "file/below/it"] {
+    fs::create_dir(folder.0.join("folder")).unwrap();
+    fs::write(folder.0.join("folder/lib"), "as it was").unwrap();
+    for prefix in ["file", "file/below/it", "folder"] {
         let output = install(&folder, &[prefix]);
         assert_eq!(output.status.code(), Some(1), "{prefix}");
         assert!(errors(&output).contains("cannot be written"), "{prefix}");
-        let file = fs::read_to_string(folder.0.join("file")).unwrap();
-        assert_eq!(file, "as it was", "{prefix}");
+        for file in ["file", "folder/lib"] {
+            let file = fs::read_to_string(folder.0.join(file)).unwrap();
+            assert_eq!(file, "as it was", "{prefix}");
+        }
     }
+    assert!(!folder.0.join("folder/include").exists());
 }
 
 /// tools/archive of the repository.
@@ -288,6 +293,7 @@ fn archives_are_made_again_where_something_has_changed() {
         "include/mespindro.h",
         "tools/archive",
         "tools/arm.awk",
+        "tools/prove.sh",
         "kit/KIT-ID",
         "target/native/libmespindro.a",
         "target/staticlib/libmespindro.a",

@@ -300,7 +300,7 @@ fn well_formed(page: &str) {
             .next()
             .unwrap();
         match name {
-            "!doctype" | "html" | "meta" | "tr" | "td" | "th" => {}
+            "!doctype" | "!--" | "html" | "meta" | "tr" | "td" | "th" => {}
             _ if tag.ends_with('/') => {}
             _ if tag.starts_with('/') => assert_eq!(open.pop(), Some(name), "{page}"),
             _ => open.push(name),

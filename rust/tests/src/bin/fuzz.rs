@@ -11,10 +11,11 @@ use std::process::ExitCode;
 use std::time::{Duration, Instant, SystemTime};
 
 fn main() -> ExitCode {
-    let numbers: Vec<u64> = std::env::args().skip(1).flat_map(|a| a.parse()).collect();
-    let (seconds, seed) = match numbers[..] {
-        [seconds] => (seconds, seed_of_now()),
-        [seconds, seed] => (seconds, seed),
+    let numbers = std::env::args().skip(1).map(|word| word.parse::<u64>());
+    let numbers: Result<Vec<u64>, _> = numbers.collect();
+    let (seconds, seed) = match numbers.as_deref() {
+        Ok([seconds]) => (*seconds, seed_of_now()),
+        Ok([seconds, seed]) => (*seconds, *seed),
         _ => {
             eprintln!("fuzz SECONDS [SEED]");
             return ExitCode::from(2);
