@@ -16,6 +16,8 @@ use crate::term::Term;
 pub const BEGIN: &str = "<!doctype html>\n<!-- a run, told by rules -->\n";
 
 /// The page of a run; `title` is the rule set's.
+///
+/// It calls itself once for each fork inside a fork, some thousand times for a run of 10,000 steps: the command gives it a stack of its own.
 pub fn page(title: &str, story: &Story, end: &End, names: &Names) -> String {
     let title = escaped(title);
     let mut out = format!(
