@@ -3,7 +3,6 @@ pub mod Sets
 pub mod Trees
 pub mod Spans
 pub mod Positions
-pub mod Marks
 pub mod Allocated
 pub mod Bodies
 pub mod Coherence

@@ -3,7 +3,6 @@ pub mod check;
 pub mod closures;
 pub mod copy;
 pub mod kinds;
-pub mod names;
 pub mod nodes;
 pub mod threads;
 pub mod walk;
