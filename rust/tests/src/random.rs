@@ -33,6 +33,15 @@ impl Random {
         self.below(n) == 0
     }
 
+    /// The numbers below `end`, each once, in any order.
+    pub fn shuffled(&mut self, end: u16) -> Vec<u16> {
+        let mut numbers: Vec<u16> = (0..end).collect();
+        for i in (1..numbers.len()).rev() {
+            numbers.swap(i, self.below(i + 1));
+        }
+        numbers
+    }
+
     /// One of the items.
     pub fn pick<T: Copy>(&mut self, items: &[T]) -> T {
         items[self.below(items.len())]

@@ -2,6 +2,7 @@
 
 use mespindro_tests::evaluator::table::write_table;
 use mespindro_tests::evaluator::text::read_text;
+use mespindro_tests::random::Random;
 use std::path::Path;
 
 /// A run that is measured; where the evaluator cannot take the input in a bearable time, the library alone.
@@ -50,6 +51,11 @@ pub fn cases() -> Vec<Case> {
             10_000,
         ),
         case("2,045 nested fresh variables", nested_fresh(2045), 10_000),
+        case(
+            "700 shuffled variables and 500 nested fresh nodes",
+            fresh_beside_variables(700, 500),
+            10_000,
+        ),
         case(
             "1,022 guards, nested on the right",
             nested_guards(1022),
@@ -200,6 +206,16 @@ fn alternatives(n: u16) -> Vec<u16> {
 
 fn nested_fresh(n: usize) -> Vec<u16> {
     let mut nodes = vec![(8, 0); n];
+    nodes.push((4, 1));
+    one_thread(&nodes)
+}
+
+/// A structure of the first k variables in any order, applied to n nested fresh nodes: each new name is looked for beyond all k.
+fn fresh_beside_variables(k: u16, n: usize) -> Vec<u16> {
+    let names = Random::new(4).shuffled(k);
+    let mut nodes = vec![(7, 0)];
+    nodes.extend(structure(k, |i| (3, names[i as usize])));
+    nodes.extend(vec![(8, 0); n]);
     nodes.push((4, 1));
     one_thread(&nodes)
 }
