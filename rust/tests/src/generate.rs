@@ -30,6 +30,7 @@ fn program(random: &mut Random, faults: Faults) -> Program {
     (0..threads)
         .map(|_| match random.below(12) {
             0 => growing(random),
+            1 => many_names(random),
             _ => Thread::new(random, faults).lively(budget, 0),
         })
         .collect()
@@ -63,6 +64,34 @@ fn growing(random: &mut Random) -> Term {
         }
         _ => tower(random.between(1, 11) as u16, random),
     }
+}
+
+/// A thread with more names than one pass of the search looks at, and something that takes the least one left.
+fn many_names(random: &mut Random) -> Term {
+    let count = random.between(60, 140) as u16;
+    let left_out = random.below(usize::from(count) + 1) as u16;
+    let redex = random.pick(&[fresh_redex, allocated_redex])();
+    let name: fn(u16) -> Term = random.pick(&[Term::Free as fn(u16) -> Term, empty_closure]);
+    let names = random
+        .shuffled(count)
+        .into_iter()
+        .filter(|n| *n != left_out);
+    let (inside, outside): (Vec<Term>, Vec<Term>) = names.map(name).partition(|_| random.one_in(3));
+    let body = Term::Allocated(200, inside);
+    let structure = outside.into_iter().fold(Term::Constructor(9), application);
+    application(application(structure, body), redex)
+}
+
+fn fresh_redex() -> Term {
+    fresh(Term::Bound(0))
+}
+
+fn allocated_redex() -> Term {
+    Term::Abstraction(vec![Term::Bound(0)])
+}
+
+fn empty_closure(location: u16) -> Term {
+    Term::Allocated(location, vec![])
 }
 
 fn sound_leaf(random: &mut Random) -> Term {

@@ -280,6 +280,11 @@ fn of_request_2() {
 }
 
 #[test]
+fn of_request_4() {
+    check_file("new-names.txt", include_str!("cases/new-names.txt"), 15);
+}
+
+#[test]
 fn runs() {
     check_file("runs.txt", include_str!("cases/runs.txt"), 59);
 }

@@ -92,9 +92,7 @@ pub fn cases() -> Vec<Case> {
         ("two tenants (rules/two-tenants)", "two-tenants"),
         ("48 ports (rules/leaf-48)", "leaf-48"),
     ] {
-        if let Some(table) = rules(file) {
-            cases.push(case(name, table, 10_000));
-        }
+        cases.push(case(name, rules(file), 10_000));
     }
     cases.extend(alone_cases());
     cases
@@ -254,13 +252,13 @@ fn endless(behind: bool) -> Vec<u16> {
     one_thread(&nodes)
 }
 
-fn rules(name: &str) -> Option<Vec<u16>> {
+fn rules(name: &str) -> Vec<u16> {
     let file = Path::new(env!("CARGO_MANIFEST_DIR"))
-        .join("../rules")
+        .join("../../rules")
         .join(name)
         .with_extension("csexp");
-    let text = std::fs::read(file).ok()?;
-    Some(write_table(&read_text(&text).expect("a rule set is read")))
+    let text = std::fs::read(file).expect("a rule set is there");
+    write_table(&read_text(&text).expect("a rule set is read"))
 }
 
 /// A structure of 1,999 nodes, alone in its program.
