@@ -1,5 +1,5 @@
-/* How much stack each call takes on the deepest inputs: the stack below a call is painted, and what the call has touched is looked for.
- * tools/stack builds and runs it. */
+/* How much stack each call takes: the stack below a call is painted, and what the call has touched is looked for. With files of rule sets on
+ * those; without any on the deepest inputs, and then how deep an input may be for a task with a small stack. tools/stack builds and runs it. */
 #include "../include/mespindro.h"
 
 int printf(const char *, ...);
@@ -9,6 +9,8 @@ long read(int, void *, size_t);
 
 #define DEEP (6u << 20)
 #define PAINT 0xa5
+/* the stack of the older leaf's management task */
+#define TASK 16384
 
 static uint8_t text[MESPINDRO_TEXT];
 static uint16_t table[MESPINDRO_TABLE], work[MESPINDRO_TABLE];
@@ -118,48 +120,147 @@ static void spine(int applications, uint16_t kind, uint16_t number) {
         node(kind, number);
 }
 
-/* left spines beside a goal, in a closure beside a goal, and in a closure that is applied */
-static void spines(void) {
-    begin();
-    node(7, 0);
-    spine(1020, 3, 0);
+/* x0 = c1 */
+static void goal(void) {
     node(10, 0);
     node(3, 0);
     node(4, 1);
-    node(0, 0);
-    on_table("a left spine of 1,020 applications beside a goal", 1020, 10);
+}
 
+static void spine_beside_goal(int levels) {
+    begin();
+    node(7, 0);
+    spine(levels, 3, 0);
+    goal();
+    node(0, 0);
+}
+
+static void spine_in_closure(int levels) {
     begin();
     node(7, 0);
     node(7, 0);
     node(4, 9);
     node(6, 0);
     node(1, 0);
-    spine(1017, 3, 0);
+    spine(levels, 3, 0);
     node(0, 0);
-    node(10, 0);
-    node(3, 0);
-    node(4, 1);
+    goal();
     node(0, 0);
-    on_table("a left spine of 1,017 in a closure beside a goal", 1017, 10);
+}
 
+static void spine_in_body(int levels) {
     begin();
     node(7, 0);
     node(6, 0);
     node(1, 0);
-    spine(1020, 2, 0);
+    spine(levels, 2, 0);
     node(0, 0);
     node(4, 1);
     node(0, 0);
-    on_table("a left spine of 1,020 in a body that a value is put into", 1020, 10);
 }
 
-int main(int files, char **file) {
-    nested_text(0, "", "", "");
-    /* once before, so that what a first call loads does not count */
-    (void)mespindro_read(text, length, work, MESPINDRO_TABLE);
-    for (int i = 1; i < files; i++)
-        rule_set(file[i]);
+static void nested_bodies(int levels) {
+    begin();
+    node(7, 0);
+    for (int i = 0; i < levels; i++) {
+        node(5, 0);
+        node(1, 0);
+    }
+    node(2, 0);
+    for (int i = 0; i < levels; i++)
+        node(0, 0);
+    node(4, 1);
+    node(0, 0);
+}
+
+/* x1 = c8 x0, x2 = c8 x1, ..: each value is looked at through the one before */
+static void bound_chain(int levels) {
+    begin();
+    node(9, 0);
+    node(10, 0);
+    for (int i = 0; i < levels; i++)
+        node(7, 0);
+    node(4, 9);
+    for (int i = levels; i > 0; i--)
+        node(3, (uint16_t)i);
+    for (int i = 0; i < levels; i++)
+        node(7, 0);
+    node(4, 9);
+    for (int i = levels; i > 0; i--) {
+        node(7, 0);
+        node(4, 8);
+        node(3, (uint16_t)(i - 1));
+    }
+    node(3, (uint16_t)levels);
+    node(0, 0);
+}
+
+/* x1 = c8 x0, x2 = c8 x1, .., the same for y, and at last x = y: each pair is met through the one before */
+static void meeting_chains(int levels) {
+    begin();
+    node(10, 0);
+    for (int i = 0; i < 2 * levels + 1; i++)
+        node(7, 0);
+    node(4, 9);
+    for (int i = 1; i <= levels; i++) {
+        node(3, (uint16_t)i);
+        node(3, (uint16_t)(200 + i));
+    }
+    node(3, (uint16_t)levels);
+    for (int i = 0; i < 2 * levels + 1; i++)
+        node(7, 0);
+    node(4, 9);
+    for (int i = 1; i <= levels; i++) {
+        node(7, 0);
+        node(4, 8);
+        node(3, (uint16_t)(i - 1));
+        node(7, 0);
+        node(4, 8);
+        node(3, (uint16_t)(200 + i - 1));
+    }
+    node(3, (uint16_t)(200 + levels));
+    node(0, 0);
+}
+
+/* an input that costs stack by its depth, and the most levels that a table holds */
+struct family {
+    const char *name;
+    void (*build)(int levels);
+    int most;
+};
+
+static const struct family families[] = {
+    {"a left spine beside a goal, applications", spine_beside_goal, 1020},
+    {"a left spine in a closure beside a goal, applications", spine_in_closure, 1017},
+    {"a left spine that a value is put into, applications", spine_in_body, 1020},
+    {"nested bodies applied to a constructor", nested_bodies, 680},
+    {"variables, each bound to a structure with the next", bound_chain, 290},
+    {"two chains of variables that meet at their ends", meeting_chains, 169},
+};
+#define FAMILIES (sizeof families / sizeof families[0])
+
+static size_t of_run(uint32_t most) {
+    paint();
+    (void)mespindro_run(table, MESPINDRO_TABLE, nodes, work, MESPINDRO_TABLE, most);
+    return touched();
+}
+
+/* the most levels with which a run stays within the task's stack, and what one more takes */
+static void fitting(const struct family *family) {
+    size_t bytes = 0, next = 0;
+    int levels = 0;
+    while (levels < family->most) {
+        family->build(levels + 1);
+        next = of_run(10);
+        if (next > TASK)
+            break;
+        bytes = next;
+        levels++;
+    }
+    printf("run       %-58s %5d fit a stack of %d bytes: %lu; one more %lu\n", family->name, levels, TASK, (unsigned long)bytes, (unsigned long)next);
+}
+
+static void texts(void) {
     nested_text(0, "", "", "");
     reading("()", 0);
     nested_text(4912, "(1:n", "(1:c1:0)", ")");
@@ -168,7 +269,10 @@ int main(int files, char **file) {
     reading("3,508 nested abstractions, the longest text", 3508);
     nested_text(2045, "(1:n", "(1:c1:0)", ")");
     reading("2,045 nested fresh nodes", 2045);
+}
 
+/* inputs that cost nothing by their depth */
+static void flat(void) {
     begin();
     node(4, 1);
     node(0, 0);
@@ -200,16 +304,15 @@ int main(int files, char **file) {
 
     begin();
     node(7, 0);
-    for (int i = 0; i < 680; i++) {
-        node(5, 0);
-        node(1, 0);
-    }
+    for (uint16_t i = 0; i < 1020; i++)
+        node(7, 0);
+    node(4, 9);
+    for (uint16_t i = 1020; i > 0; i--)
+        node(3, i - 1);
+    node(8, 0);
     node(2, 0);
-    for (int i = 0; i < 680; i++)
-        node(0, 0);
-    node(4, 1);
     node(0, 0);
-    on_table("680 nested bodies applied to a constructor", 680, 10);
+    on_table("1,020 variables beside a fresh node", 0, 10);
 
     begin();
     node(10, 0);
@@ -260,54 +363,23 @@ int main(int files, char **file) {
     node(3, 0);
     node(0, 0);
     on_table("a closure of 2,038 nested fresh nodes, bound", 2038, 10);
+}
 
-    spines();
-
-    /* x1 = c8 x0, x2 = c8 x1, ..: each value is looked at through the one before */
-    begin();
-    node(9, 0);
-    node(10, 0);
-    for (int i = 0; i < 290; i++)
-        node(7, 0);
-    node(4, 9);
-    for (uint16_t i = 290; i > 0; i--)
-        node(3, i);
-    for (int i = 0; i < 290; i++)
-        node(7, 0);
-    node(4, 9);
-    for (uint16_t i = 290; i > 0; i--) {
-        node(7, 0);
-        node(4, 8);
-        node(3, i - 1);
+int main(int files, char **file) {
+    nested_text(0, "", "", "");
+    /* once before, so that what a first call loads does not count */
+    (void)mespindro_read(text, length, work, MESPINDRO_TABLE);
+    for (int i = 1; i < files; i++)
+        rule_set(file[i]);
+    if (files > 1)
+        return 0;
+    texts();
+    flat();
+    for (size_t i = 0; i < FAMILIES; i++) {
+        families[i].build(families[i].most);
+        on_table(families[i].name, (size_t)families[i].most, 10);
     }
-    node(3, 290);
-    node(0, 0);
-    on_table("290 variables, each bound to a structure with the next", 290, 10);
-
-    /* x1 = c8 x0, x2 = c8 x1, .., the same for y, and at last x = y: each pair is met through the one before */
-    begin();
-    node(10, 0);
-    for (int i = 0; i < 2 * 169 + 1; i++)
-        node(7, 0);
-    node(4, 9);
-    for (uint16_t i = 1; i <= 169; i++) {
-        node(3, i);
-        node(3, 200 + i);
-    }
-    node(3, 169);
-    for (int i = 0; i < 2 * 169 + 1; i++)
-        node(7, 0);
-    node(4, 9);
-    for (uint16_t i = 1; i <= 169; i++) {
-        node(7, 0);
-        node(4, 8);
-        node(3, i - 1);
-        node(7, 0);
-        node(4, 8);
-        node(3, 200 + i - 1);
-    }
-    node(3, 200 + 169);
-    node(0, 0);
-    on_table("two chains of 169 variables that meet at their ends", 169, 10);
+    for (size_t i = 0; i < FAMILIES; i++)
+        fitting(&families[i]);
     return 0;
 }
