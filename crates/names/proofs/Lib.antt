@@ -1,3 +1,3 @@
 -- Laws of windows and of the passes.
-pub mod Digits
-pub mod Passes
+pub mod Twos
+pub mod Rounds
