@@ -142,7 +142,8 @@ struct mespindro_count mespindro_read(const uint8_t *text, size_t text_length, u
 struct mespindro_count mespindro_write(const uint16_t *table, size_t table_length, size_t count, uint8_t *out, size_t out_length);
 
 /* One step: the program after it, by which rule, in which thread. Refuses 1, 6, 7, 8, 9, 11. The stack of a step and of a run grows with
- * nesting, to some 190 kilobytes on the deepest programs of 2,048 nodes that were tried (docs/LIMITS.md); shorter tables bound it. */
+ * nesting, to some 190 kilobytes on the deepest programs of 2,048 nodes that were tried; shorter tables bound it. docs/LIMITS.md says which
+ * calls fit a stack of 16 KiB, on which programs. */
 struct mespindro_move mespindro_step(const uint16_t *table, size_t table_length, size_t count, uint16_t *out, size_t out_length);
 
 /* Runs the program in a table for at most `most` steps. Its room is the least of table_length / 2, work_length / 2 and 2,048 nodes. Accepted,

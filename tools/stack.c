@@ -135,6 +135,16 @@ static void spine_beside_goal(int levels) {
     node(0, 0);
 }
 
+static void goal_below_spine(int levels) {
+    begin();
+    for (int i = 0; i < levels; i++)
+        node(7, 0);
+    goal();
+    for (int i = 0; i < levels; i++)
+        node(4, 1);
+    node(0, 0);
+}
+
 static void spine_in_closure(int levels) {
     begin();
     node(7, 0);
@@ -231,6 +241,7 @@ struct family {
 
 static const struct family families[] = {
     {"a left spine beside a goal, applications", spine_beside_goal, 1020},
+    {"a left spine with a goal at its head, applications", goal_below_spine, 1021},
     {"a left spine in a closure beside a goal, applications", spine_in_closure, 1017},
     {"a left spine that a value is put into, applications", spine_in_body, 1020},
     {"nested bodies applied to a constructor", nested_bodies, 680},
@@ -247,17 +258,18 @@ static size_t of_run(uint32_t most) {
 
 /* the most levels with which a run stays within the task's stack, and what one more takes */
 static void fitting(const struct family *family) {
-    size_t bytes = 0, next = 0;
+    size_t bytes = 0, next = 0, count = 0;
     int levels = 0;
     while (levels < family->most) {
         family->build(levels + 1);
+        count = nodes;
         next = of_run(10);
         if (next > TASK)
             break;
         bytes = next;
         levels++;
     }
-    printf("run       %-58s %5d fit a stack of %d bytes: %lu; one more %lu\n", family->name, levels, TASK, (unsigned long)bytes, (unsigned long)next);
+    printf("run       %-58s %5d fit a stack of %d bytes: %lu; one more, %lu nodes, %lu\n", family->name, levels, TASK, (unsigned long)bytes, (unsigned long)count, (unsigned long)next);
 }
 
 static void texts(void) {
