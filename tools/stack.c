@@ -61,18 +61,21 @@ static void nested_text(size_t levels, const char *head, const char *middle, con
     chars(")");
 }
 
-static void told(const char *call, const char *input, unsigned refusal, size_t levels) {
+static void told(const char *call, const char *input, unsigned refusal, size_t levels, const char *how) {
     size_t bytes = touched();
     printf("%-9s %-58s refusal %2u %8lu bytes", call, input, refusal, (unsigned long)bytes);
     if (levels)
-        printf(" %6.1f a level", (double)bytes / (double)levels);
-    printf("\n");
+        printf(", %lu levels, %.1f a level", (unsigned long)levels, (double)bytes / (double)levels);
+    printf("%s\n", how);
 }
+
+/* how a run stopped, by its reason's code */
+static const char *const stopped[] = {"", ", ended", ", stopped by steps", ", stopped by room"};
 
 static void reading(const char *input, size_t levels) {
     paint();
     unsigned r = mespindro_read(text, length, work, MESPINDRO_TABLE).refusal;
-    told("read", input, r, levels);
+    told("read", input, r, levels, "");
 }
 
 static void on_table(const char *input, size_t levels, uint32_t most) {
@@ -80,19 +83,20 @@ static void on_table(const char *input, size_t levels, uint32_t most) {
     unsigned r;
     paint();
     r = mespindro_write(table, MESPINDRO_TABLE, nodes, out, MESPINDRO_TEXT).refusal;
-    told("write", input, r, levels);
+    told("write", input, r, levels, "");
     paint();
     r = mespindro_standing(table, MESPINDRO_TABLE, nodes, 0).refusal;
-    told("standing", input, r, levels);
+    told("standing", input, r, levels, "");
     paint();
-    (void)mespindro_thread(table, MESPINDRO_TABLE, nodes, 0);
-    told("thread", input, 0, levels);
+    /* the part is empty exactly where the standing call refuses */
+    size_t part = mespindro_thread(table, MESPINDRO_TABLE, nodes, 0).length;
+    told("thread", input, part ? 0 : r, levels, "");
     paint();
     r = mespindro_step(table, MESPINDRO_TABLE, nodes, work, MESPINDRO_TABLE).refusal;
-    told("step", input, r, levels);
+    told("step", input, r, levels, "");
     paint();
-    r = mespindro_run(table, MESPINDRO_TABLE, nodes, work, MESPINDRO_TABLE, most).refusal;
-    told("run", input, r, levels);
+    struct mespindro_stop stop = mespindro_run(table, MESPINDRO_TABLE, nodes, work, MESPINDRO_TABLE, most);
+    told("run", input, stop.refusal, levels, stopped[stop.reason]);
 }
 
 /* a rule set, whose file is read in one piece */
@@ -264,12 +268,15 @@ static void fitting(const struct family *family) {
         family->build(levels + 1);
         count = nodes;
         next = of_run(10);
-        if (next > TASK)
+        if (next >= TASK)
             break;
         bytes = next;
         levels++;
     }
-    printf("run       %-58s %5d fit a stack of %d bytes: %lu; one more, %lu nodes, %lu\n", family->name, levels, TASK, (unsigned long)bytes, (unsigned long)count, (unsigned long)next);
+    printf("run       %-58s %5d levels fit a stack of %d bytes: %lu", family->name, levels, TASK, (unsigned long)bytes);
+    if (levels < family->most)
+        printf("; one more, %lu nodes: %lu", (unsigned long)count, (unsigned long)next);
+    printf("\n");
 }
 
 static void texts(void) {
@@ -283,8 +290,8 @@ static void texts(void) {
     reading("2,045 nested fresh nodes", 2045);
 }
 
-/* inputs that cost nothing by their depth */
-static void flat(void) {
+/* threads without a goal that cost nothing by their depth */
+static void flat_threads(void) {
     begin();
     node(4, 1);
     node(0, 0);
@@ -295,7 +302,7 @@ static void flat(void) {
         node(8, 0);
     node(4, 1);
     node(0, 0);
-    on_table("2,045 nested fresh nodes", 2045, 10);
+    on_table("2,045 nested fresh nodes", 0, 10);
 
     begin();
     for (int i = 0; i < 1022; i++)
@@ -303,7 +310,7 @@ static void flat(void) {
     for (int i = 0; i < 1023; i++)
         node(4, 1);
     node(0, 0);
-    on_table("a structure of 1,022 applications, nested on the left", 1022, 10);
+    on_table("a structure of 1,022 applications, nested on the left", 0, 10);
 
     begin();
     for (int i = 0; i < 1022; i++) {
@@ -312,7 +319,7 @@ static void flat(void) {
     }
     node(4, 1);
     node(0, 0);
-    on_table("1,022 guards, nested on the right", 1022, 2000);
+    on_table("1,022 guards, nested on the right", 0, 2000);
 
     begin();
     node(7, 0);
@@ -325,7 +332,10 @@ static void flat(void) {
     node(2, 0);
     node(0, 0);
     on_table("1,020 variables beside a fresh node", 0, 10);
+}
 
+/* goals that cost nothing by their depth */
+static void flat_goals(void) {
     begin();
     node(10, 0);
     for (int v = 0; v < 2; v++) {
@@ -335,7 +345,7 @@ static void flat(void) {
             node(4, 1);
     }
     node(0, 0);
-    on_table("two structures of 510 applications, nested on the left", 510, 10);
+    on_table("two structures of 510 applications, nested on the left", 0, 10);
 
     begin();
     node(10, 0);
@@ -347,7 +357,7 @@ static void flat(void) {
         node(4, 1);
     }
     node(0, 0);
-    on_table("two structures of 510 applications, nested on the right", 510, 10);
+    on_table("two structures of 510 applications, nested on the right", 0, 10);
 
     begin();
     node(9, 0);
@@ -360,7 +370,7 @@ static void flat(void) {
     node(4, 1);
     node(3, 0);
     node(0, 0);
-    on_table("a value of 1,020 applications, nested on the right, bound", 1020, 10);
+    on_table("a value of 1,020 applications, nested on the right, bound", 0, 10);
 
     begin();
     node(9, 0);
@@ -374,7 +384,7 @@ static void flat(void) {
     node(0, 0);
     node(3, 0);
     node(0, 0);
-    on_table("a closure of 2,038 nested fresh nodes, bound", 2038, 10);
+    on_table("a closure of 2,038 nested fresh nodes, bound", 0, 10);
 }
 
 int main(int files, char **file) {
@@ -386,7 +396,8 @@ int main(int files, char **file) {
     if (files > 1)
         return 0;
     texts();
-    flat();
+    flat_threads();
+    flat_goals();
     for (size_t i = 0; i < FAMILIES; i++) {
         families[i].build(families[i].most);
         on_table(families[i].name, (size_t)families[i].most, 10);

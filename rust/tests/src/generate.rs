@@ -66,32 +66,28 @@ fn growing(random: &mut Random) -> Term {
     }
 }
 
-/// A thread with more names than one pass of the search looks at, and something that takes the least one left.
+/// A thread with more names of one kind than one pass of the search looks for, some of them in a body, and what asks for one more of them or,
+/// now and then, of the other kind.
 fn many_names(random: &mut Random) -> Term {
-    let count = random.between(60, 140) as u16;
-    let left_out = random.below(usize::from(count) + 1) as u16;
-    let redex = random.pick(&[fresh_redex, allocated_redex])();
-    let name: fn(u16) -> Term = random.pick(&[Term::Free as fn(u16) -> Term, empty_closure]);
-    let names = random
-        .shuffled(count)
-        .into_iter()
-        .filter(|n| *n != left_out);
-    let (inside, outside): (Vec<Term>, Vec<Term>) = names.map(name).partition(|_| random.one_in(3));
-    let body = Term::Allocated(200, inside);
+    let count = random.between(65, 200) as u16;
+    let least = random.pick(&[0, 64]);
+    let left_out = random.between(least, usize::from(count)) as u16;
+    let variables = random.one_in(2);
+    let asks_variable = variables != random.one_in(4);
+    let names = random.shuffled(count);
+    let names = names.into_iter().filter(|name| *name != left_out);
+    let elements = names.map(|name| match variables {
+        true => Term::Free(name),
+        false => Term::Allocated(name, vec![]),
+    });
+    let (inside, outside): (Vec<_>, Vec<_>) = elements.partition(|_| random.one_in(3));
     let structure = outside.into_iter().fold(Term::Constructor(9), application);
-    application(application(structure, body), redex)
-}
-
-fn fresh_redex() -> Term {
-    fresh(Term::Bound(0))
-}
-
-fn allocated_redex() -> Term {
-    Term::Abstraction(vec![Term::Bound(0)])
-}
-
-fn empty_closure(location: u16) -> Term {
-    Term::Allocated(location, vec![])
+    let names = application(structure, Term::Allocated(2047, inside));
+    let asks = match asks_variable {
+        true => fresh(Term::Bound(0)),
+        false => Term::Abstraction(vec![Term::Bound(0)]),
+    };
+    application(names, asks)
 }
 
 fn sound_leaf(random: &mut Random) -> Term {

@@ -281,7 +281,7 @@ fn of_request_2() {
 
 #[test]
 fn of_request_4() {
-    check_file("new-names.txt", include_str!("cases/new-names.txt"), 15);
+    check_file("new-names.txt", include_str!("cases/new-names.txt"), 18);
 }
 
 #[test]
