@@ -63,7 +63,7 @@ static void nested_text(size_t levels, const char *head, const char *middle, con
 
 static void told(const char *call, const char *input, unsigned refusal, size_t levels, const char *how) {
     size_t bytes = touched();
-    printf("%-9s %-58s refusal %2u %8lu bytes", call, input, refusal, (unsigned long)bytes);
+    printf("%-9s %-60s refusal %2u %8lu bytes", call, input, refusal, (unsigned long)bytes);
     if (levels)
         printf(", %lu levels, %.1f a level", (unsigned long)levels, (double)bytes / (double)levels);
     printf("%s\n", how);
@@ -115,13 +115,13 @@ static void rule_set(const char *file) {
     on_table(file, 0, 10000);
 }
 
-/* a left spine: so many applications of c9 to the element */
+/* a left spine: the head applied to so many constructors */
 static void spine(int applications, uint16_t kind, uint16_t number) {
     for (int i = 0; i < applications; i++)
         node(7, 0);
-    node(4, 9);
+    node(kind, number);
     for (int i = 0; i < applications; i++)
-        node(kind, number);
+        node(4, 1);
 }
 
 /* x0 = c1 */
@@ -136,16 +136,6 @@ static void spine_beside_goal(int levels) {
     node(7, 0);
     spine(levels, 3, 0);
     goal();
-    node(0, 0);
-}
-
-static void goal_below_spine(int levels) {
-    begin();
-    for (int i = 0; i < levels; i++)
-        node(7, 0);
-    goal();
-    for (int i = 0; i < levels; i++)
-        node(4, 1);
     node(0, 0);
 }
 
@@ -173,6 +163,13 @@ static void spine_in_body(int levels) {
     node(0, 0);
 }
 
+static void spine_below_fresh(int levels) {
+    begin();
+    node(8, 0);
+    spine(levels, 2, 0);
+    node(0, 0);
+}
+
 static void nested_bodies(int levels) {
     begin();
     node(7, 0);
@@ -188,9 +185,7 @@ static void nested_bodies(int levels) {
 }
 
 /* x1 = c8 x0, x2 = c8 x1, ..: each value is looked at through the one before */
-static void bound_chain(int levels) {
-    begin();
-    node(9, 0);
+static void chain(int levels) {
     node(10, 0);
     for (int i = 0; i < levels; i++)
         node(7, 0);
@@ -205,6 +200,19 @@ static void bound_chain(int levels) {
         node(4, 8);
         node(3, (uint16_t)(i - 1));
     }
+}
+
+/* such a goal alone; and with the last variable behind it */
+static void counted_chain(int levels) {
+    begin();
+    chain(levels);
+    node(0, 0);
+}
+
+static void bound_chain(int levels) {
+    begin();
+    node(9, 0);
+    chain(levels);
     node(3, (uint16_t)levels);
     node(0, 0);
 }
@@ -245,11 +253,12 @@ struct family {
 
 static const struct family families[] = {
     {"a left spine beside a goal, applications", spine_beside_goal, 1020},
-    {"a left spine with a goal at its head, applications", goal_below_spine, 1021},
     {"a left spine in a closure beside a goal, applications", spine_in_closure, 1017},
     {"a left spine that a value is put into, applications", spine_in_body, 1020},
+    {"a left spine below a fresh node, applications", spine_below_fresh, 1021},
     {"nested bodies applied to a constructor", nested_bodies, 680},
-    {"variables, each bound to a structure with the next", bound_chain, 290},
+    {"variables of a goal, each bound to a structure with the next", counted_chain, 290},
+    {"the same, with the last one behind the goal", bound_chain, 290},
     {"two chains of variables that meet at their ends", meeting_chains, 169},
 };
 #define FAMILIES (sizeof families / sizeof families[0])
@@ -273,7 +282,7 @@ static void fitting(const struct family *family) {
         bytes = next;
         levels++;
     }
-    printf("run       %-58s %5d levels fit a stack of %d bytes: %lu", family->name, levels, TASK, (unsigned long)bytes);
+    printf("run       %-60s %5d levels fit a stack of %d bytes: %lu", family->name, levels, TASK, (unsigned long)bytes);
     if (levels < family->most)
         printf("; one more, %lu nodes: %lu", (unsigned long)count, (unsigned long)next);
     printf("\n");
