@@ -53,7 +53,7 @@ pub fn cases() -> Vec<Case> {
         case("2,045 nested fresh variables", nested_fresh(2045), 10_000),
         case(
             "700 shuffled variables and 500 nested fresh nodes",
-            fresh_beside_variables(700, 500),
+            beside_variables(700, &[vec![(8, 0); 500], vec![(4, 1)]].concat()),
             10_000,
         ),
         case(
@@ -74,7 +74,7 @@ pub fn cases() -> Vec<Case> {
         case("endless beta, 15 nodes", endless_small(), 10_000),
         case(
             "a constructor put in below 30 fresh nodes, again and again",
-            handed_on(&below_fresh(30), &[(4, 1)]),
+            one_thread(&handed_on(&below_fresh(30), &[(4, 1)])),
             10_000,
         ),
         case(
@@ -111,22 +111,27 @@ fn alone_cases() -> Vec<Case> {
         case("a chain of 499 variables, the last first", chain(499), 1),
         case(
             "a closure of 1,927 nodes put in below 30 fresh nodes",
-            handed_on(&below_fresh(30), &deep_closure(1923)),
+            one_thread(&handed_on(&below_fresh(30), &deep_closure(1923))),
             10_000,
         ),
         case(
             "a closure of 1,852 nodes moved along 10 fresh variables",
-            handed_on(&along_variables(10), &deep_closure(1848)),
+            one_thread(&handed_on(&along_variables(10), &deep_closure(1848))),
             10_000,
         ),
         case(
             "a constructor put in at 320 places, again and again",
-            handed_on(&in_many_places(320), &[(4, 1)]),
+            one_thread(&handed_on(&in_many_places(320), &[(4, 1)])),
             10_000,
         ),
         case(
             "a failing chain of 83 links asked 83 times, again and again",
             failing_chain(83),
+            10_000,
+        ),
+        case(
+            "30 new variables beside 900 others, again and again",
+            beside_variables(900, &handed_on(&below_fresh(30), &[(4, 1)])),
             10_000,
         ),
     ]
@@ -208,13 +213,12 @@ fn nested_fresh(n: usize) -> Vec<u16> {
     one_thread(&nodes)
 }
 
-/// A structure of the first k variables in any order, applied to n nested fresh nodes: each new name is looked for beyond all k.
-fn fresh_beside_variables(k: u16, n: usize) -> Vec<u16> {
+/// A structure of the first k variables in any order, applied to the part: each new name there is looked for beyond all k.
+fn beside_variables(k: u16, part: &[Node]) -> Vec<u16> {
     let names = Random::new(4).shuffled(k);
     let mut nodes = vec![(7, 0)];
     nodes.extend(structure(k, |i| (3, names[i as usize])));
-    nodes.extend(vec![(8, 0); n]);
-    nodes.push((4, 1));
+    nodes.extend(part);
     one_thread(&nodes)
 }
 
@@ -330,7 +334,7 @@ fn deep_closure(n: usize) -> Vec<Node> {
 }
 
 /// `(a (a F F) V)` with F = `(L 0 ((l (body))))`, where the body ends in `(a (a F F) V)`: V is handed on for ever.
-fn handed_on(body: &[Node], v: &[Node]) -> Vec<u16> {
+fn handed_on(body: &[Node], v: &[Node]) -> Vec<Node> {
     let mut f = vec![(6, 0), (1, 0), (5, 0), (1, 0)];
     f.extend(body);
     f.extend([(0, 0), (0, 0)]);
@@ -338,7 +342,7 @@ fn handed_on(body: &[Node], v: &[Node]) -> Vec<u16> {
     nodes.extend(&f);
     nodes.extend(&f);
     nodes.extend(v);
-    one_thread(&nodes)
+    nodes
 }
 
 /// `(a (a F F) V)` below k fresh nodes.
