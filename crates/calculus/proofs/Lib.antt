@@ -4,6 +4,8 @@ pub mod Refusals
 pub mod Answers
 pub mod Alls
 pub mod Preorders
+pub mod Columns
+pub mod ColumnCases
 pub mod Decimals
 pub mod Bytes
 pub mod Texts

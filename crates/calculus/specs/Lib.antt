@@ -15,6 +15,7 @@ pub mod Run
 pub mod Tally
 pub mod Sexp
 pub mod Text
+pub mod Column
 pub mod Calls
 pub mod Report
 pub mod Known
