@@ -1,0 +1,3 @@
+// The column beside the table: for each node the size of the tree that stands there, one 16-bit number a node.
+pub mod renew;
+pub mod sizes;
