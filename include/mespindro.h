@@ -7,19 +7,54 @@
  * target/native/libmespindro.a, for the machine at hand. Both have C's usual calling convention, and need memcpy and memset and nothing else.
  *
  * A rule set is exchanged as a text, Rivest's canonical S-expressions; README.md has one. In memory a program is a table: two 16-bit numbers
- * a node, kind and number, in preorder. A table never leaves the process: write a text, send it, read it again.
+ * a node, kind and number, in preorder. Beside each table stands its column: one 16-bit number a node, how many nodes the subtree has that
+ * begins there, itself included. That of an alternative is its term and all that stands behind it in its list, so the first entry is the node
+ * count; the end of a list has 1. For ((g c1 c2) c3), 7 nodes:
+ *
+ *     table    1 0   9 0   4 1   4 2   1 0   4 3   0 0
+ *     column     7     3     1     1     3     1     1
+ *
+ * A read, a step and a run write the column with the table, and every call that is handed a program checks it: keep the two together. Neither
+ * leaves the process: write a text, send it, read it again.
  *
  * Nothing is allocated and nothing is kept between two calls; there is no static data. Calls may be made from several threads of execution at
- * once, if no buffer that one of them writes is in use by another; a table that is only read may be shared.
+ * once, if no buffer that one of them writes is in use by another; a table that is only read may be shared, with its column.
  *
  * What the caller owes, otherwise anything may happen: every pointer is valid for its length, and not NULL even where the length is 0; a
  * uint16_t pointer is aligned to 2; no buffer has more than PTRDIFF_MAX bytes; the buffers of one call do not overlap (a step's output is not
- * its table); there is enough stack (docs/LIMITS.md). A length counts elements: bytes of a text, numbers of a table. `const` buffers are read,
- * the others written. Lengths above MESPINDRO_TABLE and odd lengths are allowed.
+ * its table, and no column is another's or a part of a table); there is enough stack (docs/LIMITS.md). A length counts elements: bytes of a
+ * text, numbers of a table or of a column. `const` buffers are read, the others written. Lengths above MESPINDRO_TABLE and MESPINDRO_COLUMN and
+ * odd lengths are allowed, and so is a column that is shorter or longer than its table holds.
  *
  * Every call then ends, whatever bytes, numbers, counts and limits it is given. It gives its result, with `refusal` 0, or it is refused: then
- * `refusal` is the lowest number that applies, every other field is 0, and no buffer has changed. This is proved (docs/PROMISES.md says
- * where); not proved are the compiler's back end and what the caller owes.
+ * `refusal` is the first number of the call's list that applies, every other field is 0, and no buffer has changed, no column either. Each
+ * call's list stands with it, in the order of its tests: a read gives the lowest that applies; a call on a table too, but for 14, which goes
+ * before all but 1. This is proved (docs/PROMISES.md says where); not proved are the compiler's back end and what the caller owes.
+ *
+ * A whole program, which runs `((u c1 c2) (g c1 c2))`: the first alternative fails, the second one ends as c2. It prints "4 2".
+ *
+ *     #include <mespindro.h>
+ *     #include <stdio.h>
+ *
+ *     static const char text[] = "((1:u(1:c1:1)(1:c1:2))(1:g(1:c1:1)(1:c1:2)))";
+ *     static uint16_t table[MESPINDRO_TABLE], column[MESPINDRO_COLUMN];
+ *     static uint16_t work[MESPINDRO_TABLE], work_column[MESPINDRO_COLUMN];
+ *
+ *     int main(void) {
+ *         struct mespindro_count read = mespindro_read((const uint8_t *)text, sizeof text - 1, table, MESPINDRO_TABLE, column, MESPINDRO_COLUMN);
+ *         if (read.refusal != MESPINDRO_ACCEPTED) return 1;
+ *         struct mespindro_stop stop = mespindro_run(table, MESPINDRO_TABLE, column, MESPINDRO_COLUMN, read.count,
+ *                                                    work, MESPINDRO_TABLE, work_column, MESPINDRO_COLUMN, 10000);
+ *         if (stop.refusal != MESPINDRO_ACCEPTED || stop.reason != MESPINDRO_ENDED) return 1;
+ *         for (size_t k = 0;; k++) {
+ *             struct mespindro_stand stand = mespindro_standing(table, MESPINDRO_TABLE, column, MESPINDRO_COLUMN, stop.nodes, k);
+ *             if (stand.refusal == MESPINDRO_NO_THREAD) return 0;
+ *             if (stand.refusal != MESPINDRO_ACCEPTED || stand.standing != MESPINDRO_ANSWER) return 1;
+ *             struct mespindro_part part = mespindro_thread(table, MESPINDRO_TABLE, column, MESPINDRO_COLUMN, stop.nodes, k);
+ *             for (size_t i = part.start; i < part.start + part.length; i += 2)
+ *                 printf("%u %u\n", (unsigned)table[i], (unsigned)table[i + 1]);
+ *         }
+ *     }
  */
 #ifndef MESPINDRO_H
 #define MESPINDRO_H
@@ -31,10 +66,11 @@
 extern "C" {
 #endif
 
-/* The most nodes of a program, the most bytes of its text, and the numbers of a table that holds every program. */
+/* The most nodes of a program, the most bytes of its text, and the numbers of a table and of a column that hold every program. */
 #define MESPINDRO_NODES 2048
 #define MESPINDRO_TEXT 24576
 #define MESPINDRO_TABLE 4096
+#define MESPINDRO_COLUMN 2048
 
 /* Kinds: the first number of a node. The second one is 0 but where it is said. The parts follow in the table. */
 enum {
@@ -62,9 +98,10 @@ enum {
     MESPINDRO_NO_BINDER = 6,       /* a bound variable has no binder */
     MESPINDRO_TOO_MANY_NODES = 7,  /* the program read, or a single step's result, has over 2,048 nodes */
     MESPINDRO_INCOHERENT = 8,      /* one location with two bodies in a thread, or a body that reaches a binder around it */
-    MESPINDRO_NO_ROOM = 9,         /* the result does not fit the output; for a run, the program does not fit the work table */
+    MESPINDRO_NO_ROOM = 9,         /* the result does not fit the output or its column; a run's program not the work table or its column */
     MESPINDRO_NO_THREAD = 10,      /* there is no thread of that number */
-    MESPINDRO_FINISHED = 11        /* a single step is asked for and every thread is finished */
+    MESPINDRO_FINISHED = 11,       /* a single step is asked for and every thread is finished */
+    MESPINDRO_WRONG_COLUMN = 14    /* the column of the program handed in is wrong or too short; asked directly after 1 */
 };
 
 /* The six rules of a step; 0 where it was refused. */
@@ -92,7 +129,7 @@ enum {
     MESPINDRO_PARTIAL = 4 /* a value that holds a free variable (kind 3) or an allocated abstraction (kind 6): not to be used */
 };
 
-/* How many nodes or bytes the call has put at the front of its output; what stood behind them is left as it was. */
+/* How many nodes or bytes the call has put at the front of its output; what stood behind them, there and in the column, is left as it was. */
 struct mespindro_count {
     size_t count;
     uint16_t refusal;
@@ -100,7 +137,7 @@ struct mespindro_count {
 
 /* A step that was made. */
 struct mespindro_move {
-    size_t nodes;     /* at the front of the output; what stood behind them is left as it was */
+    size_t nodes;     /* at the front of the output and of its column; what stood behind them is left as it was */
     uint32_t thread;  /* the one that was worked on: its number from 0 in the program before the step */
     uint16_t rule;
     uint16_t refusal;
@@ -129,35 +166,44 @@ struct mespindro_stand {
     uint16_t refusal;
 };
 
-/* A part of the table: its first number, and how many numbers. */
+/* A part of the table: its first number, and how many numbers. The entries of its nodes in the column are those from start / 2 up to, not with,
+ * (start + length) / 2; the first of them is length / 2. */
 struct mespindro_part {
     size_t start;
     size_t length;
 };
 
-/* Reads a text into a table. Refuses 2 to 9. */
-struct mespindro_count mespindro_read(const uint8_t *text, size_t text_length, uint16_t *out, size_t out_length);
+/* Reads a text into a table and its column. Refuses 2 to 9; 9 where the output or the column is too short. */
+struct mespindro_count mespindro_read(const uint8_t *text, size_t text_length, uint16_t *out, size_t out_length, uint16_t *column,
+                                      size_t column_length);
 
-/* Writes the text of the program in a table. 24,576 bytes hold every text. Refuses 1, 6, 8, 9. */
-struct mespindro_count mespindro_write(const uint16_t *table, size_t table_length, size_t count, uint8_t *out, size_t out_length);
+/* Writes the text of the program in a table. 24,576 bytes hold every text. Refuses 1, 14, 6, 8, 9. */
+struct mespindro_count mespindro_write(const uint16_t *table, size_t table_length, const uint16_t *column, size_t column_length, size_t count,
+                                       uint8_t *out, size_t out_length);
 
-/* One step: the program after it, by which rule, in which thread. Refuses 1, 6, 7, 8, 9, 11. The stack of a step and of a run grows with
- * nesting, to some 190 kilobytes on the deepest programs of 2,048 nodes that were tried; shorter tables bound it. docs/LIMITS.md says which
- * calls fit a stack of 16 KiB, on which programs. */
-struct mespindro_move mespindro_step(const uint16_t *table, size_t table_length, size_t count, uint16_t *out, size_t out_length);
+/* One step: the program after it with its column, by which rule, in which thread. Refuses 1, 14, 6, 7, 8, 9, 11; 9 where the output or its
+ * column is too short. The stack of a step and of a run grows with nesting, to some 190 kilobytes on the deepest programs of 2,048 nodes that
+ * were tried; shorter tables bound it. docs/LIMITS.md says which calls fit a stack of 16 KiB, on which programs. */
+struct mespindro_move mespindro_step(const uint16_t *table, size_t table_length, const uint16_t *column, size_t column_length, size_t count,
+                                     uint16_t *out, size_t out_length, uint16_t *out_column, size_t out_column_length);
 
-/* Runs the program in a table for at most `most` steps. Its room is the least of table_length / 2, work_length / 2 and 2,048 nodes. Accepted,
- * the table holds the end program and then zeros to its very end, and the work table zeros only. A run that stopped by steps or by room goes
- * on when it is called again with `nodes` as the count (after room: in larger tables); `steps` and `counts` are of the one call. It cannot be
- * interrupted: choose `most` so that a call is short enough. Refuses 1, 6, 8, 9. */
-struct mespindro_stop mespindro_run(uint16_t *table, size_t table_length, size_t count, uint16_t *work, size_t work_length, uint32_t most);
+/* Runs the program in a table for at most `most` steps. Its room is the least of table_length / 2, column_length, work_length / 2,
+ * work_column_length and 2,048 nodes. Accepted, the table holds the end program and then zeros to its very end, its column that program's
+ * entries and then zeros to its very end, and the work table and its column zeros only. A run that stopped by steps or by room goes on when it
+ * is called again with `nodes` as the count (after room: in larger tables and columns); `steps` and `counts` are of the one call. It cannot be
+ * interrupted: choose `most` so that a call is short enough. Refuses 1, 14, 6, 8, 9; 9 where the work table or its column is too short for the
+ * program, while the table's own column is too short by 14. */
+struct mespindro_stop mespindro_run(uint16_t *table, size_t table_length, uint16_t *column, size_t column_length, size_t count, uint16_t *work,
+                                    size_t work_length, uint16_t *work_column, size_t work_column_length, uint32_t most);
 
-/* How thread k stands, counted from 0. Refuses 1, 6, 8, 10. */
-struct mespindro_stand mespindro_standing(const uint16_t *table, size_t table_length, size_t count, size_t k);
+/* How thread k stands, counted from 0. Refuses 1, 14, 6, 8, 10. */
+struct mespindro_stand mespindro_standing(const uint16_t *table, size_t table_length, const uint16_t *column, size_t column_length, size_t count,
+                                          size_t k);
 
 /* Where the nodes of thread k stand in the table, without its alternative node. Length 0, and start 0, exactly where mespindro_standing
  * refuses; that call tells the number. */
-struct mespindro_part mespindro_thread(const uint16_t *table, size_t table_length, size_t count, size_t k);
+struct mespindro_part mespindro_thread(const uint16_t *table, size_t table_length, const uint16_t *column, size_t column_length, size_t count,
+                                       size_t k);
 
 #ifdef __cplusplus
 }

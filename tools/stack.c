@@ -13,7 +13,8 @@ long read(int, void *, size_t);
 #define TASK 16384
 
 static uint8_t text[MESPINDRO_TEXT];
-static uint16_t table[MESPINDRO_TABLE], work[MESPINDRO_TABLE];
+static uint16_t table[MESPINDRO_TABLE], column[MESPINDRO_COLUMN];
+static uint16_t work[MESPINDRO_TABLE], work_column[MESPINDRO_COLUMN];
 static size_t length, nodes;
 
 /* The same frame below each time: `paint` fills it, `touched` looks how far from its far end it is unchanged. */
@@ -40,8 +41,31 @@ static void node(uint16_t kind, uint16_t number) {
 static void begin(void) {
     for (size_t i = 0; i < MESPINDRO_TABLE; i++)
         table[i] = work[i] = 0;
+    for (size_t i = 0; i < MESPINDRO_COLUMN; i++)
+        column[i] = work_column[i] = 0;
     nodes = 0;
     node(1, 0);
+}
+
+/* the nodes of the tree that begins at node i; those of its parts are known */
+static size_t size_at(size_t i) {
+    switch (table[2 * i]) {
+    case MESPINDRO_ABSTRACTION:
+    case MESPINDRO_ALLOCATED:
+    case MESPINDRO_FRESH: return 1 + column[i + 1];
+    case MESPINDRO_ALTERNATIVE:
+    case MESPINDRO_APPLICATION:
+    case MESPINDRO_GUARD:
+    case MESPINDRO_UNIFICATION: return 1 + column[i + 1] + column[i + 1 + column[i + 1]];
+    default: return 1;
+    }
+}
+
+/* the end of the list of threads, and the column: from the last node back, since parts stand behind their node */
+static void end(void) {
+    node(0, 0);
+    for (size_t i = nodes; i-- > 0;)
+        column[i] = (uint16_t)size_at(i);
 }
 
 static void chars(const char *s) {
@@ -74,7 +98,7 @@ static const char *const stopped[] = {"", ", ended", ", stopped by steps", ", st
 
 static void reading(const char *input, size_t levels) {
     paint();
-    unsigned r = mespindro_read(text, length, work, MESPINDRO_TABLE).refusal;
+    unsigned r = mespindro_read(text, length, work, MESPINDRO_TABLE, work_column, MESPINDRO_COLUMN).refusal;
     told("read", input, r, levels, "");
 }
 
@@ -82,20 +106,21 @@ static void on_table(const char *input, size_t levels, uint32_t most) {
     static uint8_t out[MESPINDRO_TEXT];
     unsigned r;
     paint();
-    r = mespindro_write(table, MESPINDRO_TABLE, nodes, out, MESPINDRO_TEXT).refusal;
+    r = mespindro_write(table, MESPINDRO_TABLE, column, MESPINDRO_COLUMN, nodes, out, MESPINDRO_TEXT).refusal;
     told("write", input, r, levels, "");
     paint();
-    r = mespindro_standing(table, MESPINDRO_TABLE, nodes, 0).refusal;
+    r = mespindro_standing(table, MESPINDRO_TABLE, column, MESPINDRO_COLUMN, nodes, 0).refusal;
     told("standing", input, r, levels, "");
     paint();
     /* the part is empty exactly where the standing call refuses */
-    size_t part = mespindro_thread(table, MESPINDRO_TABLE, nodes, 0).length;
+    size_t part = mespindro_thread(table, MESPINDRO_TABLE, column, MESPINDRO_COLUMN, nodes, 0).length;
     told("thread", input, part ? 0 : r, levels, "");
     paint();
-    r = mespindro_step(table, MESPINDRO_TABLE, nodes, work, MESPINDRO_TABLE).refusal;
+    r = mespindro_step(table, MESPINDRO_TABLE, column, MESPINDRO_COLUMN, nodes, work, MESPINDRO_TABLE, work_column, MESPINDRO_COLUMN).refusal;
     told("step", input, r, levels, "");
     paint();
-    struct mespindro_stop stop = mespindro_run(table, MESPINDRO_TABLE, nodes, work, MESPINDRO_TABLE, most);
+    struct mespindro_stop stop = mespindro_run(table, MESPINDRO_TABLE, column, MESPINDRO_COLUMN, nodes, work, MESPINDRO_TABLE, work_column,
+                                               MESPINDRO_COLUMN, most);
     told("run", input, stop.refusal, levels, stopped[stop.reason]);
 }
 
@@ -111,7 +136,7 @@ static void rule_set(const char *file) {
     length = (size_t)got;
     reading(file, 0);
     begin();
-    nodes = mespindro_read(text, length, table, MESPINDRO_TABLE).count;
+    nodes = mespindro_read(text, length, table, MESPINDRO_TABLE, column, MESPINDRO_COLUMN).count;
     on_table(file, 0, 10000);
 }
 
@@ -136,7 +161,7 @@ static void spine_beside_goal(int levels) {
     node(7, 0);
     spine(levels, 3, 0);
     goal();
-    node(0, 0);
+    end();
 }
 
 static void spine_in_closure(int levels) {
@@ -149,7 +174,7 @@ static void spine_in_closure(int levels) {
     spine(levels, 3, 0);
     node(0, 0);
     goal();
-    node(0, 0);
+    end();
 }
 
 static void spine_in_body(int levels) {
@@ -160,14 +185,14 @@ static void spine_in_body(int levels) {
     spine(levels, 2, 0);
     node(0, 0);
     node(4, 1);
-    node(0, 0);
+    end();
 }
 
 static void spine_below_fresh(int levels) {
     begin();
     node(8, 0);
     spine(levels, 2, 0);
-    node(0, 0);
+    end();
 }
 
 static void nested_bodies(int levels) {
@@ -181,7 +206,7 @@ static void nested_bodies(int levels) {
     for (int i = 0; i < levels; i++)
         node(0, 0);
     node(4, 1);
-    node(0, 0);
+    end();
 }
 
 /* x1 = c8 x0, x2 = c8 x1, ..: each value is looked at through the one before */
@@ -206,7 +231,7 @@ static void chain(int levels) {
 static void counted_chain(int levels) {
     begin();
     chain(levels);
-    node(0, 0);
+    end();
 }
 
 static void bound_chain(int levels) {
@@ -214,7 +239,7 @@ static void bound_chain(int levels) {
     node(9, 0);
     chain(levels);
     node(3, (uint16_t)levels);
-    node(0, 0);
+    end();
 }
 
 /* x1 = c8 x0, x2 = c8 x1, .., the same for y, and at last x = y: each pair is met through the one before */
@@ -241,7 +266,7 @@ static void meeting_chains(int levels) {
         node(3, (uint16_t)(200 + i - 1));
     }
     node(3, (uint16_t)(200 + levels));
-    node(0, 0);
+    end();
 }
 
 /* an input that costs stack by its depth, and the most levels that a table holds */
@@ -265,7 +290,7 @@ static const struct family families[] = {
 
 static size_t of_run(uint32_t most) {
     paint();
-    (void)mespindro_run(table, MESPINDRO_TABLE, nodes, work, MESPINDRO_TABLE, most);
+    (void)mespindro_run(table, MESPINDRO_TABLE, column, MESPINDRO_COLUMN, nodes, work, MESPINDRO_TABLE, work_column, MESPINDRO_COLUMN, most);
     return touched();
 }
 
@@ -303,14 +328,14 @@ static void texts(void) {
 static void flat_threads(void) {
     begin();
     node(4, 1);
-    node(0, 0);
+    end();
     on_table("one constructor", 0, 10);
 
     begin();
     for (int i = 0; i < 2045; i++)
         node(8, 0);
     node(4, 1);
-    node(0, 0);
+    end();
     on_table("2,045 nested fresh nodes", 0, 10);
 
     begin();
@@ -318,7 +343,7 @@ static void flat_threads(void) {
         node(7, 0);
     for (int i = 0; i < 1023; i++)
         node(4, 1);
-    node(0, 0);
+    end();
     on_table("a structure of 1,022 applications, nested on the left", 0, 10);
 
     begin();
@@ -327,7 +352,7 @@ static void flat_threads(void) {
         node(4, 1);
     }
     node(4, 1);
-    node(0, 0);
+    end();
     on_table("1,022 guards, nested on the right", 0, 2000);
 
     begin();
@@ -339,7 +364,7 @@ static void flat_threads(void) {
         node(3, i - 1);
     node(8, 0);
     node(2, 0);
-    node(0, 0);
+    end();
     on_table("1,020 variables beside a fresh node", 0, 10);
 }
 
@@ -353,7 +378,7 @@ static void flat_goals(void) {
         for (int i = 0; i < 511; i++)
             node(4, 1);
     }
-    node(0, 0);
+    end();
     on_table("two structures of 510 applications, nested on the left", 0, 10);
 
     begin();
@@ -365,7 +390,7 @@ static void flat_goals(void) {
         }
         node(4, 1);
     }
-    node(0, 0);
+    end();
     on_table("two structures of 510 applications, nested on the right", 0, 10);
 
     begin();
@@ -378,7 +403,7 @@ static void flat_goals(void) {
     }
     node(4, 1);
     node(3, 0);
-    node(0, 0);
+    end();
     on_table("a value of 1,020 applications, nested on the right, bound", 0, 10);
 
     begin();
@@ -392,14 +417,14 @@ static void flat_goals(void) {
     node(4, 1);
     node(0, 0);
     node(3, 0);
-    node(0, 0);
+    end();
     on_table("a closure of 2,038 nested fresh nodes, bound", 0, 10);
 }
 
 int main(int files, char **file) {
     nested_text(0, "", "", "");
     /* once before, so that what a first call loads does not count */
-    (void)mespindro_read(text, length, work, MESPINDRO_TABLE);
+    (void)mespindro_read(text, length, work, MESPINDRO_TABLE, work_column, MESPINDRO_COLUMN);
     for (int i = 1; i < files; i++)
         rule_set(file[i]);
     if (files > 1)

@@ -18,6 +18,8 @@ use Rattle.calculus.specs.Run.{End, size, run-of, next-program, run}
 use Rattle.calculus.specs.Known.{only}
 use Rattle.calculus.specs.Sexp.{list}
 use Rattle.calculus.specs.Text.{raw-empty, encode, raw, raw-text, text}
+use Rattle.calculus.specs.Sheets.{sheet}
+use Rattle.calculus.specs.Column.{column}
 use Rattle.calculus.specs.Calls.{TextOf, Reads, read}
 use Rattle.calculus.proofs.Texts.{text-injective, text-length}
 use Rattle.calculus.proofs.Machines.{run-ended, run-keeps}
@@ -91,9 +93,9 @@ unfolding substitute nodes threads program-of stored put-in single structure val
 head-only = (refl, refl, λ h. let z : _≡_ {A = ℕ} 1 5 = cc in omega arith)
 
 -- a reader may not always refuse: the text `()` is read under every limit, whatever the output held
-pub reader-accepts : (n a b : ℕ) → 1 ≤ n → Reads n (text empty) (a ∷ b ∷ []) (record { refusal = 0; values = 1 ∷ [] }) (0 ∷ 0 ∷ [])
-unfolding text raw-text raw nodes preorder threads
-reader-accepts n a b h =
+pub reader-accepts : (n a b c : ℕ) → 1 ≤ n → Reads n (text empty) (sheet (a ∷ b ∷ []) (c ∷ [])) (record { refusal = 0; values = 1 ∷ [] }) (sheet (0 ∷ 0 ∷ []) (1 ∷ []))
+unfolding text raw-text raw nodes preorder threads column
+reader-accepts n a b c h =
     read empty (
       (omega (arith, text-length 1 empty (omega arith) tt)),
       (

@@ -4,6 +4,7 @@ use Prim.Native.Nat.{ℕ, _*_}
 use lib.ListN.{replicate}
 use Rattle.calculus.specs.declared.Refusal.{Refusal}
 use Rattle.calculus.specs.Tree.{term, program, Tree, threads, program-of}
+use Rattle.calculus.specs.Sheets.{sheet}
 use Rattle.calculus.specs.Run.{End, run}
 use Rattle.calculus.specs.Sexp.{decimal, atom, list, nothing, more, bytes}
 use Rattle.calculus.specs.Text.{encode, raw}
@@ -22,7 +23,7 @@ unfoldable pub refusal-report : Refusal → List ℕ
 unfolding bytes decimal
 refusal-report r = bytes (list (more (atom refusedBytes) (more (atom (decimal (number r))) nothing)))
 
--- what is written for the text b, with the node limit n and the step limit k: it is read into a table of n nodes, and run with a work table of as many
+-- what is written for the text b, with the node limit n and the step limit k: it is read into a table of n nodes with a column of as many, and run with a work table and a column of as many
 pub data Reports (n k : ℕ) (b : List ℕ) : List ℕ → Type 0 where
-  reported : (p : Tree program) → Accepts (read-refusals n b (replicate (2 * n) 0)) → TextOf n b p → Reports n k b (report (run n k (threads p)))
-  refused : (r : Refusal) → Refuses (read-refusals n b (replicate (2 * n) 0)) r → Reports n k b (refusal-report r)
+  reported : (p : Tree program) → Accepts (read-refusals n b (sheet (replicate (2 * n) 0) (replicate n 0))) → TextOf n b p → Reports n k b (report (run n k (threads p)))
+  refused : (r : Refusal) → Refuses (read-refusals n b (sheet (replicate (2 * n) 0) (replicate n 0))) r → Reports n k b (refusal-report r)

@@ -11,7 +11,7 @@ pub struct Loc(pub u16);
 
 pub struct Con(pub u16);
 
-// Why a call is refused: document 01's numbers 1 to 11, in their order.
+// Why a call is refused: document 01's numbers 1 to 11, in their order, and request 5's 14.
 pub enum Refusal {
     NoProgram,
     TooLong,
@@ -24,6 +24,7 @@ pub enum Refusal {
     NoRoom,
     NoThread,
     Finished,
+    WrongColumn,
 }
 
 // Why a run stopped.
@@ -86,7 +87,7 @@ pub enum Stood {
     Refused(Refusal),
 }
 
-// Document 01's number of a refusal.
+// The number of a refusal.
 pub fn refusal_number(x: Refusal) -> u16
     ensures { λ r. ⌜ r ≡ number x ⌝ }
 {
@@ -102,6 +103,7 @@ pub fn refusal_number(x: Refusal) -> u16
         Refusal::NoRoom => 9,
         Refusal::NoThread => 10,
         Refusal::Finished => 11,
+        Refusal::WrongColumn => 14,
     }
 }
 

@@ -1,8 +1,8 @@
 -- Laws of the column.
 pub mod Locals
 pub mod Checks
-pub mod Recounts
+pub mod Counts
 pub mod Spines
 pub mod Copies
-pub mod Moves
 pub mod Besides
+pub mod Admissions

@@ -8,10 +8,11 @@ use Rattle.calculus.specs.declared.Reason.{Reason}
 use Rattle.calculus.specs.declared.Counts.{Counts}
 use Rattle.calculus.specs.declared.Refusal.{Refusal}
 use Rattle.calculus.specs.Tree.{term, Tree, nodes, threads, program-of}
+use Rattle.calculus.specs.Sheets.{Sheet, sheet, holds}
 use Rattle.calculus.specs.Run.{End, run, room-of}
 use Rattle.calculus.specs.Tally.{run-counts}
 use Rattle.calculus.specs.Answers.{number, reasonCode, Values, six}
-use Rattle.calculus.specs.Calls.{Reads, TableOf, ran-values, RunsWith}
+use Rattle.calculus.specs.Calls.{Reads, ran-values, RunsWith}
 use Rattle.calculus.specs.Report.{report, refusal-report, reported, refused}
 use Rattle.calculus.proofs.Answers.{number-positive, reason-injective, same-value, number-small}
 use Rattle.calculus.proofs.Runs.{program-run-only}
@@ -19,7 +20,7 @@ use Rattle.calculus.proofs.Outcomes.{table-of-unique}
 use Rattle.writing.specs.Writer.{numeral, Wrote}
 use Rattle.promises.proofs.Admitted.{accepted}
 use Rattle.mespindro.specs.Limit.{limit}
-use Rattle.promises.specs.Worked.{HasRead, HasRun}
+use Rattle.promises.specs.Worked.{Held, HasRead, HasRun}
 use Rattle.promises.proofs.Worked.{read-gives, run-gives, good-runs}
 use Rattle.promises.proofs.Refused.{reads-exactly, read-length}
 use Rattle.leaf.specs.Reported.{most, longest, Reported}
@@ -27,30 +28,34 @@ use Rattle.leaf.specs.Written.{HoldsGood, Loaded, EndWritten, RunWritten
 use Rattle.leaf.proofs.Stores.{wrote-front}
 use Rattle.leaf.proofs.Shapes.{numeral-length, refusal-is}
 
--- a table of zeros holds the limit's nodes
-pub zeros-long : length (replicate {A = ℕ} (2 * limit) 0) ≡ 2 * limit
-zeros-long = length-replicate {A = ℕ} (2 * limit) 0
+-- what a text is read into: a table of zeros for n nodes, and a column of as many
+abbrev pub zeros : ℕ → Sheet
+zeros n = sheet (replicate (2 * n) 0) (replicate n 0)
+
+-- which they hold
+pub zeros-hold : (n : ℕ) → holds (zeros n) ≡ n
+zeros-hold n = omega (arith, length-replicate {A = ℕ} (2 * n) 0, length-replicate {A = ℕ} n 0)
 
 -- what a run that stopped returns
 abbrev pub stopped : Reason → ℕ → ℕ → Counts → Values
 stopped r m k c = record { refusal = 0; values = reasonCode r ∷ m ∷ k ∷ six c }
 
--- The run of the program in the table, in a work table as long, for so many steps as are allowed.
-module _ {table : List ℕ} {count : ℕ} {work : List ℕ} {allowed : ℕ} {v : Values} {t w : List ℕ} (h : Loaded limit table count) (long : length work ≡ 2 * limit) (c : RunsWith limit table count work allowed v t w) where
+-- The run of the program in the table, in a work table that holds as much, for so many steps as are allowed.
+module _ {table : Sheet} {count : ℕ} {work : Sheet} {allowed : ℕ} {v : Values} {t w : Sheet} (h : Loaded limit table count) (long : holds work ≡ limit) (c : RunsWith limit table count work allowed v t w) where
   abbrev loaded-end : End (List (Tree term))
-  loaded-end = run limit allowed (threads (h .holds .program-there))
+  loaded-end = run limit allowed (threads (h .good-there .program-there))
 
   room-is : room-of limit table work ≡ limit
-  room-is = omega arith
+  room-is = let a = h .wide in let b = h .long in omega arith
 
-  run-values : v ≡ ran-values loaded-end (run-counts limit allowed (threads (h .holds .program-there)))
-  run-values = let g = h .holds in rw room-is at (good-runs (g .table-of) (g .good) (omega (arith, g .table-of .small)) c .0)
+  run-values : v ≡ ran-values loaded-end (run-counts limit allowed (threads (h .good-there .program-there)))
+  run-values = let g = h .good-there in rw room-is at (good-runs (g .held) (g .good) (omega (arith, g .held .table-of .small)) c .0)
 
   has-run : HasRun limit table count work allowed v t w
   has-run = run-gives c (ap (λ (x : Values). x .refusal) run-values)
 
   end-is : has-run .end ≡ loaded-end
-  end-is = rw (room-is, table-of-unique (has-run .table-of) (h .holds .table-of)) at (program-run-only (has-run .is-run))
+  end-is = rw (room-is, table-of-unique (has-run .there .table-of) (h .good-there .held .table-of)) at (program-run-only (has-run .is-run))
 
   -- it is not refused
   pub run-not-refused : (q : Refusal) → v .refusal ≡ number q → ⊥
@@ -67,47 +72,48 @@ module _ {table : List ℕ} {count : ℕ} {work : List ℕ} {allowed : ℕ} {v :
     pub run-few : k ≤ allowed
     run-few = omega (arith, value 2, has-run .is-run .within)
 
-    end-there : TableOf limit t m (program-of (has-run .end .last))
+    end-there : Held limit t m (program-of (has-run .end .last))
     end-there = rw (value 1) (has-run .back)
 
     -- the table holds the end, a good program
     pub run-holds : HoldsGood limit t m
-    run-holds = record { program-there = program-of (has-run .end .last); table-of = end-there; good = has-run .result-good }
+    run-holds = record { program-there = program-of (has-run .end .last); held = end-there; good = has-run .result-good }
 
     end-told : _≡_ {A = End (List (Tree term))} (record { reason = r; taken = k; last = has-run .end .last }) (has-run .end)
     end-told = rw (reason-is, value 2)
 
     -- its report is that of the run
-    pub run-written : {out after : List ℕ} {next : ℕ} → EndWritten limit r k t m out after next → RunWritten limit allowed table count out after next
+    pub run-written : {out after : List ℕ} {next : ℕ} → EndWritten limit r k (t .numbers) m out after next → RunWritten limit allowed (table .numbers) count out after next
     run-written e = record {
       fits = e .fits;
-      wrote = λ q s. rw (table-of-unique s (h .holds .table-of), ← end-is, ← end-told) (e .wrote (has-run .end .last) end-there);
+      wrote = λ q s. rw (table-of-unique s (h .good-there .held .table-of), ← end-is, ← end-told) (e .wrote (has-run .end .last) (end-there .table-of));
     }
 
--- The read of the text b into a table of zeros.
-module _ {b : List ℕ} {v : Values} {t : List ℕ} (c : Reads limit b (replicate (2 * limit) 0) v t) where
+-- The read of the text b into zeros.
+module _ {b : List ℕ} {v : Values} {t : Sheet} (c : Reads limit b (zeros limit) v t) where
   module _ {m : ℕ} (f : v ≡ accepted m) where
-    has-read : HasRead limit b (replicate (2 * limit) 0) v t
+    has-read : HasRead limit b (zeros limit) v t
     has-read = read-gives c (ap (λ (x : Values). x .refusal) f)
 
     counts : nodes (has-read .program) ≡ m
     counts = ap (λ (l : List ℕ). getD l 0 0) (sym (has-read .values) ∙ ap (λ (x : Values). x .values) f)
 
-    read-there : TableOf limit t m (has-read .program)
+    read-there : Held limit t m (has-read .program)
     read-there = rw counts at (has-read .back)
 
     -- the table holds a good program
     pub read-loaded : Loaded limit t m
     read-loaded = record {
-      holds = record { program-there = has-read .program; table-of = read-there; good = has-read .good };
-      wide = read-length c ∙ zeros-long;
+      good-there = record { program-there = has-read .program; held = read-there; good = has-read .good };
+      wide = read-length c .0 ∙ length-replicate {A = ℕ} (2 * limit) 0;
+      long = read-length c .1 ∙ length-replicate {A = ℕ} limit 0;
     }
 
     -- the report of its run is the text's
-    pub run-reported : {out after : List ℕ} {next : ℕ} → RunWritten limit most t m out after next → Reported limit most b out next after
+    pub run-reported : {out after : List ℕ} {next : ℕ} → RunWritten limit most (t .numbers) m out after next → Reported limit most b out next after
     run-reported {out} {after} {next} w =
         let p = has-read .program in
-        let u = w .wrote p read-there in
+        let u = w .wrote p (read-there .table-of) in
         record {
           written = report (run limit most (threads p));
           reports = reported p (reads-exactly c .accepted-only (ap (λ (x : Values). x .refusal) f)) (record { is = has-read .is; ranges = has-read .good .ranges });

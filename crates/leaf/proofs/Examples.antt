@@ -2,9 +2,8 @@
 use mathlib.Core.Path.{_≡_, refl, sym, ap, _∙_}
 use mathlib.Core.Logic.{inl, inr}
 use mathlib.Core.List.{List, [], _∷_, _++_}
-use Prim.Native.Nat.{ℕ, zero, suc, _*_, _-_, _≤_}
+use Prim.Native.Nat.{ℕ, zero, suc, _-_, _≤_}
 use native.Mathlib.Omega.{arith}
-use lib.ListN.{replicate, length-replicate}
 use Rattle.calculus.specs.declared.Reason.the-variants.{Ended, Steps, Room}
 use Rattle.calculus.specs.declared.Refusal.the-variants.{NotCanonical}
 use Rattle.calculus.specs.Tree.{term, program, app, guard, unif, at, Tree, bound, con, abs, fresh, two, nodes, threads, program-of, uses}
@@ -29,12 +28,12 @@ use Rattle.mespindro.specs.Limit.{limit}
 use Rattle.promises.proofs.Excluded.{closures, OneAtMost, one-good}
 use Rattle.leaf.specs.Reported.{most}
 use Rattle.leaf.proofs.Shapes.{room-report, two-steps-report}
+use Rattle.leaf.proofs.Calling.{zeros, zeros-hold}
 
 -- what is reported of a good program's text is its run
 good-reports : {n k : ℕ} {p : Tree program} → n ≤ 65536 → Good n p → Reports n k (text p) (report (run n k (threads p)))
 good-reports {n} {k} {p} l g =
-    let zeros : List ℕ = replicate (2 * n) 0 in
-    reported p (reads-exactly (good-read g zeros l (omega (arith, g .small, length-replicate {A = ℕ} (2 * n) 0))) .accepted-only refl) (record { is = refl; ranges = g .ranges })
+    reported p (reads-exactly (good-read g (zeros n) l (omega (arith, g .small, zeros-hold n))) .accepted-only refl) (record { is = refl; ranges = g .ranges })
 
 -- with its run and the report of that in hand
 run-reports : (ts : List (Tree term)) {e : End (List (Tree term))} {w : List ℕ} → Good limit (program-of ts) → run limit most ts ≡ e → report e ≡ w → Reports limit most (text (program-of ts)) w

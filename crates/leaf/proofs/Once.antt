@@ -5,7 +5,7 @@ use mathlib.Core.List.{List, [], _∷_, _++_}
 use Prim.Native.Nat.{ℕ, _+_, _*_, _≤_, _<_}
 use native.Mathlib.Nat.{eq-or-lt-of-le}
 use native.Mathlib.Omega.{arith}
-use lib.ListN.{length, take, replicate, length-take, length-replicate}
+use lib.ListN.{length, take, length-take}
 use lib.Seq.{take-all}
 use Rattle.calculus.specs.declared.Refusal.{Refusal}
 use Rattle.calculus.specs.declared.Refusal.the-variants.{TooLong, NoRoom}
@@ -20,14 +20,15 @@ use Rattle.calculus.proofs.Refusals.{given-listed, accepted-not-refused, one-re
 use Rattle.calculus.proofs.Outcomes.{text-of-unique}
 use Rattle.promises.proofs.Refused.{read-has-room}
 use Rattle.leaf.specs.Reported.{Reported, ReportedWhole}
+use Rattle.leaf.proofs.Calling.{zeros, zeros-hold}
 
 module _ {n k : ℕ} {b : List ℕ} where
   -- two reports of one text are equal
   pub reports-once : {w u : List ℕ} → Reports n k b w → Reports n k b u → w ≡ u
   reports-once (reported p a t) (reported q c s) = ap (λ (x : Tree program). report (run n k (threads x))) (text-of-unique t s)
-  reports-once (reported p a t) (refused r g) = absurd (accepted-not-refused (read-refusals n b (replicate (2 * n) 0)) r a g)
-  reports-once (refused r g) (reported p a t) = absurd (accepted-not-refused (read-refusals n b (replicate (2 * n) 0)) r a g)
-  reports-once (refused r g) (refused q h) = ap refusal-report (one-refusal (read-refusals n b (replicate (2 * n) 0)) r q g h)
+  reports-once (reported p a t) (refused r g) = absurd (accepted-not-refused (read-refusals n b (zeros n)) r a g)
+  reports-once (refused r g) (reported p a t) = absurd (accepted-not-refused (read-refusals n b (zeros n)) r a g)
+  reports-once (refused r g) (refused q h) = ap refusal-report (one-refusal (read-refusals n b (zeros n)) r q g h)
 
   -- and so are two outcomes that the contract allows
   pub reported-once : {out : List ℕ} {c d : ℕ} {o u : List ℕ} → Reported n k b out c o → Reported n k b out d u → (c ≡ d) × (o ≡ u)
@@ -67,14 +68,14 @@ before-last (z ∷ l) f (inl e) = inl e
 before-last (z ∷ l) f (inr h) = inr (before-last l f h)
 
 module _ {n : ℕ} {b : List ℕ} where
-  -- the program's table holds whatever is within the limit: 9 is never given
-  pub never-nine : Refuses (read-refusals n b (replicate (2 * n) 0)) NoRoom → ⊥
-  never-nine g = read-has-room (replicate (2 * n) 0) (omega (arith, length-replicate {A = ℕ} (2 * n) 0)) g
+  -- the program's table and column hold whatever is within the limit: 9 is never given
+  pub never-nine : Refuses (read-refusals n b (zeros n)) NoRoom → ⊥
+  never-nine g = read-has-room (zeros n) (omega (arith, zeros-hold n)) g
 
   -- what is written is the report of a run, or that of one of these refusals
   pub reports-can-give : {k : ℕ} {w : List ℕ} → Reports n k b w → ((p : Tree program) × (TextOf n b p × (w ≡ report (run n k (threads p))))) ⊎ ((r : Refusal) × (In (number r) (2 ∷ 3 ∷ 4 ∷ 5 ∷ 6 ∷ 7 ∷ 8 ∷ []) × (w ≡ refusal-report r)))
   reports-can-give (reported p a t) = inl (p, (t, refl))
   reports-can-give (refused r g) =
-      let cs = read-refusals n b (replicate (2 * n) 0) in
+      let cs = read-refusals n b (zeros n) in
       let last : 9 ≡ number r → ⊥ = λ e. never-nine (rw (number-injective r NoRoom (sym e)) at g) in
       inr (r, (before-last (2 ∷ 3 ∷ 4 ∷ 5 ∷ 6 ∷ 7 ∷ 8 ∷ []) last (given-listed cs r g), refl))

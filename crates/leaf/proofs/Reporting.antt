@@ -6,6 +6,7 @@ use native.Mathlib.Omega.{arith}
 use lib.ListN.{length, getD, length-append}
 use Rattle.calculus.specs.declared.Reason.{Reason}
 use Rattle.calculus.specs.declared.Refusal.{Refusal}
+use Rattle.calculus.specs.Sheets.{Sheet}
 use Rattle.calculus.specs.Text.{text}
 use Rattle.calculus.specs.Answers.{number, Values}
 use Rattle.calculus.specs.Calls.{front, Writes}
@@ -70,14 +71,14 @@ start-length : (r : Reason) (k : ℕ) → k < 65536 → length (startBytes r k) 
 start-length r k h = omega (arith, length-append (reasonAtom r) (numeral k), reason-length r, numeral-length k h)
 
 -- The end program: its text goes into the part of the output behind the start.
-module _ (r : Reason) (k : ℕ) {table : List ℕ} {count : ℕ} {out o : List ℕ} {at : ℕ} (h : HoldsGood limit table count) (l : longest ≤ length out) (small : k < 65536) (w : Wrote out o 0 at (startBytes r k)) where
+module _ (r : Reason) (k : ℕ) {table : Sheet} {count : ℕ} {out o : List ℕ} {at : ℕ} (h : HoldsGood limit table count) (l : longest ≤ length out) (small : k < 65536) (w : Wrote out o 0 at (startBytes r k)) where
   -- there is such a part
   pub start-fits : at ≤ 15
   start-fits = omega (arith, start-length r k small)
 
   module _ {v : Values} {e : List ℕ} (c : Writes limit table count (lent o at) v e) where
     worked : (v ≡ accepted (length (text (h .program-there)))) × (e ≡ front (text (h .program-there)) (lent o at))
-    worked = good-writes (h .table-of) (h .good) (omega arith) (omega (arith, start-fits, lent-length o at (omega (arith, start-fits)))) c
+    worked = good-writes (h .held) (h .good) (omega arith) (omega (arith, start-fits, lent-length o at (omega (arith, start-fits)))) c
 
     -- it is not refused
     pub end-not-refused : (q : Refusal) → v .refusal ≡ number q → ⊥
@@ -99,5 +100,5 @@ module _ (r : Reason) (k : ℕ) {table : List ℕ} {count : ℕ} {out o : List �
       end-closing = record { fits = omega (arith, end-small, text-wrote) }
 
       -- which ends the report
-      pub end-written : {after : List ℕ} {next : ℕ} → Wrote (given-back o at e) after (at + m) next (41 ∷ []) → EndWritten limit r k table count out after next
-      end-written u = record { fits = omega (arith, end-small); wrote = λ ts t. rw (report-is, table-of-unique t (h .table-of)) (wrote-more w (wrote-more text-wrote u)) }
+      pub end-written : {after : List ℕ} {next : ℕ} → Wrote (given-back o at e) after (at + m) next (41 ∷ []) → EndWritten limit r k (table .numbers) count out after next
+      end-written u = record { fits = omega (arith, end-small); wrote = λ ts t. rw (report-is, table-of-unique t (h .held .table-of)) (wrote-more w (wrote-more text-wrote u)) }

@@ -1,6 +1,7 @@
 // What the program writes for an input: one function of its bytes.
 ghost use Prim.Native.Nat.{_*_, _≤_, _<_};
 ghost use lib.ListN.{length};
+ghost use Rattle.calculus.specs.Sheets.{sheet};
 ghost use Rattle.calculus.specs.Report.{refusal-report};
 ghost use Rattle.writing.specs.Writer.{BytesFit, Wrote};
 ghost use Rattle.mespindro.specs.Limit.{limit};
@@ -11,6 +12,7 @@ use calculus::Ran;
 use calculus::Reason;
 use calculus::Refusal;
 use calculus::refusal_number;
+use mespindro::LIMIT;
 use mespindro::NUMBERS;
 use writing::write::put;
 use writing::write::put_number;
@@ -63,13 +65,20 @@ fn put_start(reason: Reason, steps: u16, out: &mut [u8]) -> usize
 }
 
 // The report of an end: reason, steps, the program in the table.
-fn put_end(reason: Reason, steps: u16, table: &[u16], nodes: usize, out: &mut [u8]) -> usize
-    requires { ⌜ HoldsGood limit (now table) nodes ⌝ }
+fn put_end(
+    reason: Reason,
+    steps: u16,
+    table: &[u16],
+    column: &[u16],
+    nodes: usize,
+    out: &mut [u8],
+) -> usize
+    requires { ⌜ HoldsGood limit (sheet (now table) (now column)) nodes ⌝ }
     requires { ⌜ longest ≤ length (now out) ⌝ }
     ensures { λ r. ⌜ EndWritten limit reason steps (now (table .entry)) nodes (now (out .entry)) (now (out .exit)) r ⌝ }
 {
     let at = put_start(reason, steps, out);
-    match mespindro::write(table, nodes, &mut out[at..]) {
+    match mespindro::write(table, column, nodes, &mut out[at..]) {
         Counted::Count(n) => put(out, at + n, b')'),
         // cannot be: the end of a run is written
         Counted::Refused(r) => put_refusal(r, out),
@@ -77,14 +86,29 @@ fn put_end(reason: Reason, steps: u16, table: &[u16], nodes: usize, out: &mut [u
 }
 
 // The run of the program in the table, and its report.
-fn put_run(count: usize, table: &mut [u16], out: &mut [u8]) -> usize
-    requires { ⌜ Loaded limit (now table) count ⌝ }
+fn put_run(count: usize, table: &mut [u16], column: &mut [u16], out: &mut [u8]) -> usize
+    requires { ⌜ Loaded limit (sheet (now table) (now column)) count ⌝ }
     requires { ⌜ longest ≤ length (now out) ⌝ }
     ensures { λ r. ⌜ RunWritten limit most (now (table .entry)) count (now (out .entry)) (now (out .exit)) r ⌝ }
 {
     let mut work = [0u16; NUMBERS];
-    match mespindro::run(table, count, &mut work, STEP_LIMIT) {
-        Ran::Stopped(reason, nodes, steps, _) => put_end(reason, steps as u16, table, nodes, out),
+    let mut work_column = [0u16; LIMIT];
+    match mespindro::run(
+        table,
+        column,
+        count,
+        &mut work,
+        &mut work_column,
+        STEP_LIMIT,
+    ) {
+        Ran::Stopped(reason, nodes, steps, _) => put_end(
+            reason,
+            steps as u16,
+            table,
+            column,
+            nodes,
+            out,
+        ),
         // cannot be: what was read is run
         Ran::Refused(r) => put_refusal(r, out),
     }
@@ -96,8 +120,9 @@ fn report(text: &[u8], out: &mut [u8]) -> usize
     ensures { λ r. ⌜ Reported limit most (now (text .entry)) (now (out .entry)) r (now (out .exit)) ⌝ }
 {
     let mut table = [0u16; NUMBERS];
-    match mespindro::read(text, &mut table) {
-        Counted::Count(n) => put_run(n, &mut table, out),
+    let mut column = [0u16; LIMIT];
+    match mespindro::read(text, &mut table, &mut column) {
+        Counted::Count(n) => put_run(n, &mut table, &mut column, out),
         Counted::Refused(r) => put_refusal(r, out),
     }
 }

@@ -1,8 +1,9 @@
 // The six calls as C sees them: slices are a pointer and a length, answers are structs of numbers. What the fields mean stands in include/mespindro.h.
 ghost use mathlib.Core.Path.{_≡_};
 ghost use Rattle.calculus.specs.Answers.{countedValues, ranValues, steppedValues, stoodValues};
+ghost use Rattle.calculus.specs.Sheets.{sheet};
 ghost use Rattle.calculus.specs.Calls.{Reads, RunsWith, StandsAt, StepsInto, Writes};
-ghost use Rattle.table.specs.Threads.{SpanOf};
+ghost use Rattle.threads.specs.Places.{SpanOf};
 ghost use Rattle.mespindro.specs.Limit.{limit};
 ghost use Rattle.mespindro.specs.Exports.{countValues, moveValues, standValues, stopValues};
 use calculus::Counted;
@@ -133,52 +134,65 @@ fn stand_of(x: Stood) -> Stand
 }
 
 #[no_mangle]
-pub extern "C" fn mespindro_read(text: &[u8], out: &mut [u16]) -> Count
-    ensures { λ r. ⌜ Reads limit (now (text .entry)) (now (out .entry)) (countValues r) (now (out .exit)) ⌝ }
+pub extern "C" fn mespindro_read(text: &[u8], out: &mut [u16], column: &mut [u16]) -> Count
+    ensures { λ r. ⌜ Reads limit (now (text .entry)) (sheet (now (out .entry)) (now (column .entry))) (countValues r) (sheet (now (out .exit)) (now (column .exit))) ⌝ }
 {
-    count_of(crate::read(text, out))
+    count_of(crate::read(text, out, column))
 }
 
 #[no_mangle]
-pub extern "C" fn mespindro_write(table: &[u16], count: usize, out: &mut [u8]) -> Count
-    ensures { λ r. ⌜ Writes limit (now (table .entry)) count (now (out .entry)) (countValues r) (now (out .exit)) ⌝ }
+pub extern "C" fn mespindro_write(
+    table: &[u16],
+    column: &[u16],
+    count: usize,
+    out: &mut [u8],
+) -> Count
+    ensures { λ r. ⌜ Writes limit (sheet (now (table .entry)) (now (column .entry))) count (now (out .entry)) (countValues r) (now (out .exit)) ⌝ }
 {
-    count_of(crate::write(table, count, out))
+    count_of(crate::write(table, column, count, out))
 }
 
 #[no_mangle]
-pub extern "C" fn mespindro_step(table: &[u16], count: usize, out: &mut [u16]) -> Move
-    ensures { λ r. ⌜ StepsInto limit (now (table .entry)) count (now (out .entry)) (moveValues r) (now (out .exit)) ⌝ }
+pub extern "C" fn mespindro_step(
+    table: &[u16],
+    column: &[u16],
+    count: usize,
+    out: &mut [u16],
+    out_column: &mut [u16],
+) -> Move
+    ensures { λ r. ⌜ StepsInto limit (sheet (now (table .entry)) (now (column .entry))) count (sheet (now (out .entry)) (now («out_column» .entry))) (moveValues r) (sheet (now (out .exit)) (now («out_column» .exit))) ⌝ }
 {
-    move_of(crate::step(table, count, out))
+    move_of(crate::step(table, column, count, out, out_column))
 }
 
 #[no_mangle]
 pub extern "C" fn mespindro_run(
     table: &mut [u16],
+    column: &mut [u16],
     count: usize,
     work: &mut [u16],
+    work_column: &mut [u16],
     most: u32,
 ) -> Stop
-    ensures { λ r. ⌜ RunsWith limit (now (table .entry)) count (now (work .entry)) most (stopValues r) (now (table .exit)) (now (work .exit)) ⌝ }
+    ensures { λ r. ⌜ RunsWith limit (sheet (now (table .entry)) (now (column .entry))) count (sheet (now (work .entry)) (now («work_column» .entry))) most (stopValues r) (sheet (now (table .exit)) (now (column .exit))) (sheet (now (work .exit)) (now («work_column» .exit))) ⌝ }
 {
-    stop_of(crate::run(table, count, work, most))
+    stop_of(crate::run(table, column, count, work, work_column, most))
 }
 
 #[no_mangle]
-pub extern "C" fn mespindro_standing(table: &[u16], count: usize, k: usize) -> Stand
-    ensures { λ r. ⌜ StandsAt limit (now (table .entry)) count k (standValues r) ⌝ }
+pub extern "C" fn mespindro_standing(table: &[u16], column: &[u16], count: usize, k: usize) -> Stand
+    ensures { λ r. ⌜ StandsAt limit (sheet (now (table .entry)) (now (column .entry))) count k (standValues r) ⌝ }
 {
-    stand_of(crate::standing(table, count, k))
+    stand_of(crate::standing(table, column, count, k))
 }
 
 // Where the thread call's part begins and how long it is: C gets no reference back.
 #[no_mangle]
-pub extern "C" fn mespindro_thread(table: &[u16], count: usize, k: usize) -> Part
-    ensures { λ r. ⌜ SpanOf limit (now (table .entry)) count k (r .start) (r .length) ⌝ }
+pub extern "C" fn mespindro_thread(table: &[u16], column: &[u16], count: usize, k: usize) -> Part
+    ensures { λ r. ⌜ SpanOf limit (sheet (now (table .entry)) (now (column .entry))) count k (r .start) (r .length) ⌝ }
 {
     let mut scratch = [0u16; crate::SCRATCH];
-    let span = table::threads::span_of(table, count, k, crate::LIMIT, &mut scratch);
+    let span = threads::span_of(table, column, count, k, crate::LIMIT, &mut scratch);
     Part {
         start: span.start,
         length: span.length,

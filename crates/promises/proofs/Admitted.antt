@@ -3,17 +3,19 @@ use mathlib.Core.Path.{_≡_, refl, ap, ap₂}
 use mathlib.Core.List.{List, [], _∷_}
 use Prim.Native.Nat.{ℕ, suc, _≤_, _<_}
 use native.Mathlib.Omega.{arith}
-use lib.ListN.{length}
+use lib.ListN.{length, take}
 use Rattle.calculus.specs.Tree.{Sort, term, program, Tree, empty, alt, bound, free, con, abs, fresh, two, preorder, nodes, threads}
 use Rattle.calculus.specs.Good.{Closed, Coherent, All, Good}
-use Rattle.calculus.specs.Run.{holds-nodes}
+use Rattle.calculus.specs.Sheets.{Sheet, holds}
 use Rattle.calculus.specs.Sexp.{list}
 use Rattle.calculus.specs.Text.{encode, raw, raw-text, text}
+use Rattle.calculus.specs.Column.{column, ColumnOf}
 use Rattle.calculus.specs.Answers.{Values}
-use Rattle.calculus.specs.Calls.{Accepts, front, TextOf, Reads, read, TableOf, table-refusals, Writes, written}
+use Rattle.calculus.specs.Calls.{Accepts, front, put-front, TextOf, Reads, read, TableOf, table-refusals, Writes, written}
 use Rattle.calculus.proofs.Preorders.{preorder-injective}
 use Rattle.calculus.proofs.Outcomes.{text-of-unique, table-of-unique, reads-once, writes-once}
 use Rattle.calculus.proofs.Texts.{text-length}
+use Rattle.promises.specs.Worked.{Held}
 
 -- it is denied that A is denied
 abbrev pub Undenied : Type 0 → Type 0
@@ -61,25 +63,38 @@ coherent-stable (t ∷ ts) h = (
   coherent-stable ts (through (λ c. c .1) h),
 )
 
-module _ {n : ℕ} {table : List ℕ} {count : ℕ} {p : Tree program} where
-  -- a good program in a table is given none of 1, 6 and 8
-  pub good-table : TableOf n table count p → Good n p → Accepts (table-refusals n table count)
-  good-table t g = (
-    (λ f. f p t),
-    (
-      (λ f. f .1 .1 (rw (table-of-unique (f .1 .0) t) (g .closed))),
-      ((λ f. f .1 .1 (rw (table-of-unique (f .1 .0) t) (g .coherent))), tt),
-    ),
-  )
+-- a column is the program's where that is not denied
+pub column-stable : (c : List ℕ) (count : ℕ) (p : Tree program) → Undenied (ColumnOf c count p) → ColumnOf c count p
+column-stable c count p h =
+    let f : length c < count → ⊥ = λ k. h (λ o. omega (arith, o .long)) in
+    record { long = omega arith; is = same-numbers (take count c) (column p) (through (λ o. o .is) h) }
 
-  -- and the program in a table that is given none of them is good
-  pub table-good : Accepts (table-refusals n table count) → TableOf n table count p → Good n p
-  table-good a t = record {
-    small = omega (arith, t .counts, t .small);
-    ranges = t .ranges;
-    closed = closed-stable 0 p (λ f. a .1 .0 (p, (t, f)));
-    coherent = coherent-stable (threads p) (λ f. a .1 .1 .0 (p, (t, f)));
-  }
+module _ {n : ℕ} {count : ℕ} {p : Tree program} where
+  -- a good program in a table, with its column, is given none of 1, 14, 6 and 8
+  pub good-table : {table : Sheet} → Held n table count p → Good n p → Accepts (table-refusals n table count)
+  good-table {table} h g =
+      let t = h .table-of in (
+        (λ f. f p t),
+        (
+          (λ f. f .1 .1 (rw (table-of-unique (f .1 .0) t) (h .column-of))),
+          (
+            (λ f. f .1 .1 (rw (table-of-unique (f .1 .0) t) (g .closed))),
+            ((λ f. f .1 .1 (rw (table-of-unique (f .1 .0) t) (g .coherent))), tt),
+          ),
+        ),
+      )
+
+  -- and the program in a table that is given none of them is good, and the column is its
+  pub table-good : (table : Sheet) → Accepts (table-refusals n table count) → TableOf n (table .numbers) count p → Good n p × Held n table count p
+  table-good table a t = (
+    record {
+      small = omega (arith, t .counts, t .small);
+      ranges = t .ranges;
+      closed = closed-stable 0 p (λ f. a .1 .1 .0 (p, (t, f)));
+      coherent = coherent-stable (threads p) (λ f. a .1 .1 .1 .0 (p, (t, f)));
+    },
+    record { table-of = t; column-of = column-stable (table .sizes) count p (λ f. a .1 .0 (p, (t, f))) },
+  )
 
 -- an accepted call's answer that is one number
 abbrev pub accepted : ℕ → Values
@@ -87,7 +102,7 @@ accepted m = record { refusal = 0; values = m ∷ [] }
 
 module _ {n : ℕ} {p : Tree program} (g : Good n p) where
   -- the text of a good program is read, whatever else a table with room for it holds
-  pub good-read : (out : List ℕ) → n ≤ 65536 → nodes p ≤ holds-nodes out → Reads n (text p) out (accepted (nodes p)) (front (preorder p) out)
+  pub good-read : (out : Sheet) → n ≤ 65536 → nodes p ≤ holds out → Reads n (text p) out (accepted (nodes p)) (put-front p out)
   unfolding text raw-text
   good-read out l r =
       let t : TextOf n (text p) p = record { is = refl; ranges = g .ranges } in
@@ -117,17 +132,18 @@ module _ {n : ℕ} {p : Tree program} (g : Good n p) where
       t
 
   -- and nothing else can come of it
-  pub good-read-only : {out : List ℕ} {v : Values} {after : List ℕ} → n ≤ 65536 → nodes p ≤ holds-nodes out → Reads n (text p) out v after → (v ≡ accepted (nodes p)) × (after ≡ front (preorder p) out)
+  pub good-read-only : {out : Sheet} {v : Values} {after : Sheet} → n ≤ 65536 → nodes p ≤ holds out → Reads n (text p) out v after → (v ≡ accepted (nodes p)) × (after ≡ put-front p out)
   good-read-only {out} l r h = reads-once h (good-read out l r)
 
-  module _ {table : List ℕ} {count : ℕ} (t : TableOf n table count p) where
+  module _ {table : Sheet} {count : ℕ} (h : Held n table count p) where
     -- its table is written, whatever else an output with room for its text holds
     pub good-written : (out : List ℕ) → length (text p) ≤ length out → Writes n table count out (accepted (length (text p))) (front (text p) out)
     good-written out r =
-        let a = good-table t g in
-        let fits : (q : Tree program) × (TableOf n table count q × (length out < length (text q))) → ⊥ = λ f. omega (arith, f .1 .1, ap (λ (q : Tree program). length (text q)) (table-of-unique (f .1 .0) t)) in
-        written p (a .0, (a .1 .0, (a .1 .1 .0, (fits, tt)))) t
+        let a = good-table h g in
+        let t = h .table-of in
+        let fits : (q : Tree program) × (TableOf n (table .numbers) count q × (length out < length (text q))) → ⊥ = λ f. omega (arith, f .1 .1, ap (λ (q : Tree program). length (text q)) (table-of-unique (f .1 .0) t)) in
+        written p (a .0, (a .1 .0, (a .1 .1 .0, (a .1 .1 .1 .0, (fits, tt))))) t
 
     -- and nothing else can come of it
     pub good-written-only : {out : List ℕ} {v : Values} {after : List ℕ} → length (text p) ≤ length out → Writes n table count out v after → (v ≡ accepted (length (text p))) × (after ≡ front (text p) out)
-    good-written-only {out} r h = writes-once h (good-written out r)
+    good-written-only {out} r k = writes-once k (good-written out r)

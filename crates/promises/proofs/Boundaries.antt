@@ -1,13 +1,13 @@
--- Document 01's boundaries hold of the calls. Long inputs are functions of numbers, and laws about any number prove them.
-use mathlib.Core.Path.{_≡_, refl, sym, ap, _∙_}
+-- Document 01's boundaries hold of the calls, and request 5's of the column. Long inputs are functions of numbers, and laws about any number prove them.
+use mathlib.Core.Path.{_≡_, refl, sym, ap, ap₂, _∙_}
 use mathlib.Core.Logic.{inl, inr}
 use mathlib.Core.List.{List, [], _∷_, _++_, append-assoc, append-nil, tail-eq-of-cons-eq}
 use mathlib.Core.Option.{some, bind}
 use Prim.Native.Nat.{ℕ, zero, suc, _+_, _*_, _≤_, _<_}
 use native.Mathlib.Omega.{arith}
-use lib.ListN.{length, take, length-append}
+use lib.ListN.{length, getD, take, length-append}
 use Rattle.calculus.specs.declared.Refusal.{Refusal}
-use Rattle.calculus.specs.declared.Refusal.the-variants.{NoProgram, TooLong, NotCanonical, OutOfPlace, BadNumber, NoBinder, TooManyNodes, Incoherent, NoRoom, NoThread}
+use Rattle.calculus.specs.declared.Refusal.the-variants.{NoProgram, TooLong, NotCanonical, OutOfPlace, BadNumber, NoBinder, TooManyNodes, Incoherent, NoRoom, NoThread, WrongColumn}
 use Rattle.calculus.specs.declared.Reason.the-variants.{Ended, Steps, Room}
 use Rattle.calculus.specs.Tree.{term, program, app, guard, unif, code, at, Tree, empty, alt, bound, free, con, abs, fresh, two, preorder, nodes, threads, program-of}
 use Rattle.calculus.specs.Good.{InRange, Closed, Coherent, All, Good}
@@ -18,12 +18,14 @@ use Rattle.calculus.specs.Redex.{plug, own, redexes}
 use Rattle.calculus.specs.declared.Rule.the-variants.{Beta, Guard, Fail}
 use Rattle.calculus.specs.declared.Counts.{Counts}
 use Rattle.calculus.specs.Step.{rewriting, first, step-thread, Step, step}
-use Rattle.calculus.specs.Run.{size, holds-nodes, room-of}
+use Rattle.calculus.specs.Sheets.{Sheet, sheet, holds}
+use Rattle.calculus.specs.Run.{size, room-of}
 use Rattle.calculus.specs.Tally.{no-counts, one-more, uncounted, counted-run}
 use Rattle.calculus.specs.Sexp.{one, digits, decimal, Sexp, atom, list, nothing, more, bytes}
 use Rattle.calculus.specs.Text.{Raw, free-leaf, raw-empty, raw-alt, raw-leaf, encode, raw, raw-text, text}
+use Rattle.calculus.specs.Column.{column, ColumnOf}
 use Rattle.calculus.specs.Answers.{number, Values}
-use Rattle.calculus.specs.Calls.{Refusals, Refuses, front, TextOf, read-refusals, Reads, TableOf, Writes, nodes-before, StepsTo, StepsInto, RunsWith, thread-refusals, part, no-part}
+use Rattle.calculus.specs.Calls.{Refusals, Refuses, front, TextOf, read-refusals, Reads, TableOf, no-program, wrong-column, write-refusals, Writes, nodes-before, StepsTo, step-refusals, StepsInto, run-refusals, RunsWith, thread-refusals, part, no-part}
 use Rattle.calculus.specs.Known.{ascii}
 use Rattle.calculus.proofs.Substitutes.{impossible}
 use Rattle.calculus.proofs.Preorders.{nodes-positive, preorder-injective}
@@ -31,13 +33,15 @@ use Rattle.calculus.proofs.Decimals.{PlainDecimal, decimal-plain, decimal-first
 use Rattle.calculus.proofs.Bytes.{first-byte, bytes-injective}
 use Rattle.calculus.proofs.Texts.{raw-text-injective, text-injective}
 use Rattle.calculus.proofs.Tallies.{counted-ended, counted-full, counted-large}
-use Rattle.calculus.proofs.Refusals.{read-ascends}
-use Rattle.calculus.proofs.Outcomes.{text-of-unique, parts-once}
+use Rattle.calculus.proofs.Refusals.{read-ascends, Below, write-ascends, step-ascends, run-ascends, thread-ascends}
+use Rattle.calculus.proofs.Outcomes.{text-of-unique, table-of-unique, parts-once}
 use Rattle.mespindro.specs.Limit.{limit}
-use Rattle.promises.specs.Boundaries.{ReadGives, fresh-text, nested, fresh-numbers, ReadBoundaries, CallsGive, CallsAccept, TableBoundaries, fresh-over, closure, put-into, twice, twice-and-one, CallBoundaries, no-step, one-beta, RunBoundaries}
+use Rattle.promises.specs.Worked.{Held}
+use Rattle.promises.specs.Exactly.{Exactly}
+use Rattle.promises.specs.Boundaries.{ReadGives, fresh-text, nested, fresh-numbers, falling, ReadBoundaries, CallsGive, CallsAccept, TableBoundaries, ColumnTold, ColumnBoundaries, fresh-over, closure, put-into, twice, twice-and-one, CallBoundaries, no-step, one-beta, RunBoundaries}
 use Rattle.promises.proofs.Admitted.{good-table, good-read-only}
 use Rattle.promises.proofs.Refused.{refused-above, reads-exactly, writes-exactly, steps-exactly, runs-exactly, stands-exactly}
-use Rattle.promises.proofs.Worked.{front-held, front-table, reads-iff, writes-iff, table-step, good-steps, good-stopped, run-gives, good-runs, good-writes}
+use Rattle.promises.proofs.Worked.{column-held, front-held, front-table, reads-iff, writes-iff, table-step, good-steps, good-stopped, run-gives, good-runs, good-writes}
 use Rattle.promises.proofs.Heads.{stands-accepted}
 use Rattle.promises.proofs.Excluded.{closures, OneAtMost, one-good, two-coherent, stopped, runs-to, goes-on}
 
@@ -47,12 +51,12 @@ behind [] = []
 behind (c ∷ cs) = cs
 
 -- 2 is the first number of a read, so it is given only where its condition holds
-two-only : (n : ℕ) (b out : List ℕ) → Refuses (read-refusals n b out) TooLong → 12 * n < length b
+two-only : (n : ℕ) (b : List ℕ) (out : Sheet) → Refuses (read-refusals n b out) TooLong → 12 * n < length b
 two-only n b out (inl g) = g .0
 two-only n b out (inr g) = absurd (omega (arith, refused-above (behind (read-refusals n b out)) 2 TooLong (read-ascends n b out .1) (g .1)))
 
 -- Every outcome of a read has the number of the first condition that holds: what a text is not, or what its program is not.
-module _ {n : ℕ} {b out : List ℕ} {v : Values} {o : List ℕ} (h : Reads n b out v o) (l : length b ≤ 12 * n) where
+module _ {n : ℕ} {b : List ℕ} {out : Sheet} {v : Values} {o : Sheet} (h : Reads n b out v o) (l : length b ≤ 12 * n) where
   gives-3 : ((s : Sexp one) → bytes s ≡ b → ⊥) → v .refusal ≡ 3
   gives-3 f = reads-exactly h .refused NotCanonical (inr ((λ k. omega arith), inl (f, refl)))
 
@@ -90,7 +94,7 @@ module _ {n : ℕ} {b out : List ℕ} {v : Values} {o : List ℕ} (h : Reads n b
     gives-8 : Closed 0 p → nodes p ≤ n → (All Coherent (threads p) → ⊥) → v .refusal ≡ 8
     gives-8 c m f = of-program Incoherent (inr (not-6 c, inr (not-7 m, inl ((p, (t, f)), refl))))
 
-    gives-9 : Good n p → holds-nodes out < nodes p → v .refusal ≡ 9
+    gives-9 : Good n p → holds out < nodes p → v .refusal ≡ 9
     gives-9 g m = of-program NoRoom (inr (not-6 (g .closed), inr (not-7 (g .small), inr (not-8 (g .coherent), inl ((p, (t, m)), refl)))))
 
 -- a text of a good program is read
@@ -187,6 +191,16 @@ chain-table : (k : ℕ) (l : List ℕ) → preorder (program-of (chain k)) ++ l 
 unfolding chain preorder program-of
 chain-table k l = rw (append-assoc, fresh-numbers-are k (con 0))
 
+-- the entries of a chain: its nodes, counted down
+fresh-column : (k : ℕ) (l : List ℕ) → column (fresh-over k (con 0)) ++ l ≡ falling (suc k) l
+unfolding fresh-over falling column nodes
+fresh-column zero l = refl
+fresh-column (suc k) l = ap₂ (λ (m : ℕ) (r : List ℕ). suc m ∷ r) (fresh-nodes k (con 0) ∙ omega arith) (fresh-column k l)
+
+chain-column : (k : ℕ) (l : List ℕ) → column (program-of (chain k)) ++ l ≡ (k + 3) ∷ falling (suc k) (1 ∷ l)
+unfolding chain program-of nodes column
+chain-column k l = ap₂ (λ (m : ℕ) (r : List ℕ). m ∷ r) (omega (arith, fresh-nodes k (con 0))) (append-assoc (column (fresh-over k (con 0))) (1 ∷ []) l ∙ fresh-column k (1 ∷ l))
+
 -- Texts that are none.
 
 -- digits before a colon do not begin with 0 and another digit
@@ -218,9 +232,9 @@ pub not-empty : (s : Sexp one) → bytes s ≡ [] → ⊥
 not-empty s e = first-byte s 41 (41 ∷ []) [] (omega arith) (omega arith) (rw e)
 
 -- a program's text is no atom's
-no-program : (b : List ℕ) (r : Raw program) → raw-text r ≡ bytes (atom b) → ⊥
+atom-no-program : (b : List ℕ) (r : Raw program) → raw-text r ≡ bytes (atom b) → ⊥
 unfolding raw-text
-no-program b r e = let z : list (encode r) ≡ atom b = bytes-injective (list (encode r)) (atom b) e in impossible (cc)
+atom-no-program b r e = let z : list (encode r) ≡ atom b = bytes-injective (list (encode r)) (atom b) e in impossible (cc)
 
 -- `2:01` is the N of no variable
 no-variable : (t : Tree term) → raw t ≡ raw-leaf free-leaf (48 ∷ 49 ∷ []) → ⊥
@@ -242,12 +256,13 @@ no-variable-program (alt t p) e = no-variable t (cc)
 read-one : {b : List ℕ} (ts : List (Tree term)) → text (program-of ts) ≡ b → size ts ≤ limit → InRange limit (program-of ts) → Closed 0 (program-of ts) → All (λ t. OneAtMost (closures t)) ts → ReadGives b 0
 read-one ts e m r c a = read-good (program-of ts) e (one-good ts m r c a)
 
-chain-reads : (out : List ℕ) (v : Values) (o : List ℕ) → 4096 ≤ length out → Reads limit (nested 2045 (ascii "(1:c1:0)")) out v o →
-    (v ≡ record { refusal = 0; values = 2048 ∷ [] }) × (o ≡ front (1 ∷ 0 ∷ fresh-numbers 2045 (4 ∷ 0 ∷ 0 ∷ 0 ∷ [])) out)
+chain-reads : (out : Sheet) (v : Values) (o : Sheet) → 2048 ≤ holds out → Reads limit (nested 2045 (ascii "(1:c1:0)")) out v o →
+    (v ≡ record { refusal = 0; values = 2048 ∷ [] }) × (o ≡ sheet (front (1 ∷ 0 ∷ fresh-numbers 2045 (4 ∷ 0 ∷ 0 ∷ 0 ∷ [])) (out .numbers)) (front (2048 ∷ falling 2046 (1 ∷ [])) (out .sizes)))
 chain-reads out v o l h =
     let z = good-read-only (chain-good 2045 (omega arith)) (omega arith) (omega (arith, chain-nodes 2045)) (rw (← chain-text 2045) at h) in
     let t : preorder (program-of (chain 2045)) ≡ 1 ∷ 0 ∷ fresh-numbers 2045 (4 ∷ 0 ∷ 0 ∷ 0 ∷ []) = sym (append-nil (preorder (program-of (chain 2045)))) ∙ chain-table 2045 [] in
-    (z .0 ∙ ap (λ (k : ℕ). record { refusal = 0; values = k ∷ [] }) (chain-nodes 2045), z .1 ∙ ap (λ (x : List ℕ). front x out) t)
+    let c : column (program-of (chain 2045)) ≡ 2048 ∷ falling 2046 (1 ∷ []) = sym (append-nil (column (program-of (chain 2045)))) ∙ chain-column 2045 [] in
+    (z .0 ∙ ap (λ (k : ℕ). record { refusal = 0; values = k ∷ [] }) (chain-nodes 2045), z .1 ∙ ap₂ (λ (x y : List ℕ). sheet (front x (out .numbers)) (front y (out .sizes))) t c)
 
 chain-too-large : ReadGives (nested 2046 (ascii "(1:c1:0)")) 7
 unfolding ascii
@@ -276,7 +291,7 @@ read-boundaries = record {
   index-out-bound = index-nested;
   zero-first = λ out v o l h. gives-5 h (omega arith) (raw-alt (raw-leaf free-leaf (48 ∷ 49 ∷ [])) raw-empty) refl (λ p t. no-variable-program p (raw-text-injective (raw p) (raw-alt (raw-leaf free-leaf (48 ∷ 49 ∷ [])) raw-empty) (t .is)));
   length-zero-first = λ out v o l h. gives-3 h (omega arith) (λ s e. no-such-program s (58 ∷ 120 ∷ 49 ∷ 58 ∷ 48 ∷ 41 ∷ 41 ∷ []) e);
-  lone-atom = λ out v o l h. gives-4 h (omega arith) (atom (99 ∷ [])) refl (no-program (99 ∷ []));
+  lone-atom = λ out v o l h. gives-4 h (omega arith) (atom (99 ∷ [])) refl (atom-no-program (99 ∷ []));
   top-index = read-unbound (program-of (bound 0 ∷ [])) refl (omega arith) (omega arith) (λ c. omega arith);
   no-text = λ out v o l h. gives-3 h (omega arith) not-empty;
   body-reaches = read-incoherent (program-of (fresh (abs (at 0) (alt (bound 1) empty)) ∷ [])) refl (omega arith) (omega arith) (omega arith) (omega arith) (λ c. omega (arith, c .0 .within 0 (alt (bound 1) empty) (inl (refl, refl))));
@@ -285,14 +300,15 @@ read-boundaries = record {
       (λ c. let e : empty ≡ alt (con 0) empty = c .0 .equal 0 empty (alt (con 0) empty) (inl (inl (refl, refl))) (inr (inl (refl, refl))) in impossible (cc));
   two-threads = read-one (abs (at 0) empty ∷ abs (at 0) (alt (con 0) empty) ∷ []) refl (omega arith) (omega arith) (omega arith) (tt, ((tt, tt), tt));
   longest = λ b out v o h. ((λ e. omega (arith, two-only limit b out (reads-exactly h .refused-only TooLong e))), (λ k. reads-exactly h .refused TooLong (inl (omega arith, refl))));
-  room-in = λ out v o l h. reads-iff (omega arith) h .1 (record { program = program-of (con 1 ∷ []); good = one-good (con 1 ∷ []) (omega arith) (omega arith) (tt, tt) (tt, tt); is = refl; held = omega arith });
+  room-in = λ out v o l h. reads-iff (omega arith) h .1 (record { program = program-of (con 1 ∷ []); good = one-good (con 1 ∷ []) (omega arith) (omega arith) (tt, tt) (tt, tt); is = refl; held = omega (arith, l .0, l .1) });
   room-out = λ out v o l h. gives-9 h (omega arith) {p = program-of (con 1 ∷ [])} (record { is = refl; ranges = omega arith }) (one-good (con 1 ∷ []) (omega arith) (omega arith) (tt, tt) (tt, tt)) (omega arith);
+  column-out = λ out v o l h. gives-9 h (omega arith) {p = program-of (con 1 ∷ [])} (record { is = refl; ranges = omega arith }) (one-good (con 1 ∷ []) (omega arith) (omega arith) (tt, tt) (tt, tt)) (omega arith);
 }
 
 -- Calls on a table.
 
--- 1 and 6 are given by every call on a table in which no program stands, or one with an index without a binder
-calls-give-1 : {table : List ℕ} {count : ℕ} → ((p : Tree program) → TableOf limit table count p → ⊥) → CallsGive table count 1
+-- 1 is given by every call on a table in which no program stands
+calls-give-1 : {table : Sheet} {count : ℕ} → ((p : Tree program) → TableOf limit (table .numbers) count p → ⊥) → CallsGive table count 1
 calls-give-1 f = record {
   writes = λ out v o h. writes-exactly h .refused NoProgram (inl (f, refl));
   steps = λ out v o h. steps-exactly h .refused NoProgram (inl (f, refl));
@@ -300,28 +316,42 @@ calls-give-1 f = record {
   stands = λ k v h. stands-exactly h .refused NoProgram (inl (f, refl));
 }
 
-calls-give-6 : {table : List ℕ} {count : ℕ} {p : Tree program} → TableOf limit table count p → (Closed 0 p → ⊥) → CallsGive table count 6
-calls-give-6 {p = p} t f = record {
-  writes = λ out v o h. writes-exactly h .refused NoBinder (inr ((λ g. g p t), inl ((p, (t, f)), refl)));
-  steps = λ out v o h. steps-exactly h .refused NoBinder (inr ((λ g. g p t), inl ((p, (t, f)), refl)));
-  runs = λ work k v x w h. runs-exactly h .refused NoBinder (inr ((λ g. g p t), inl ((p, (t, f)), refl)));
-  stands = λ k v h. stands-exactly h .refused NoBinder (inr ((λ g. g p t), inl ((p, (t, f)), refl)));
+-- 14 where one stands, and the column is not its
+calls-give-14 : {table : Sheet} {count : ℕ} (p : Tree program) → TableOf limit (table .numbers) count p → (ColumnOf (table .sizes) count p → ⊥) → CallsGive table count 14
+calls-give-14 p t f = record {
+  writes = λ out v o h. writes-exactly h .refused WrongColumn (inr ((λ g. g p t), inl ((p, (t, f)), refl)));
+  steps = λ out v o h. steps-exactly h .refused WrongColumn (inr ((λ g. g p t), inl ((p, (t, f)), refl)));
+  runs = λ work k v x w h. runs-exactly h .refused WrongColumn (inr ((λ g. g p t), inl ((p, (t, f)), refl)));
+  stands = λ k v h. stands-exactly h .refused WrongColumn (inr ((λ g. g p t), inl ((p, (t, f)), refl)));
 }
 
+-- 6 where the column is its, and it has an index without a binder
+calls-give-6 : {table : Sheet} {count : ℕ} {p : Tree program} → Held limit table count p → (Closed 0 p → ⊥) → CallsGive table count 6
+calls-give-6 {table} {count} {p} held f =
+    let t = held .table-of in
+    let right : wrong-column limit table count .1 → ⊥ = λ g. g .1 .1 (rw (table-of-unique (g .1 .0) t) (held .column-of)) in
+    record {
+      writes = λ out v o h. writes-exactly h .refused NoBinder (inr ((λ g. g p t), inr (right, inl ((p, (t, f)), refl))));
+      steps = λ out v o h. steps-exactly h .refused NoBinder (inr ((λ g. g p t), inr (right, inl ((p, (t, f)), refl))));
+      runs = λ work k v x w h. runs-exactly h .refused NoBinder (inr ((λ g. g p t), inr (right, inl ((p, (t, f)), refl))));
+      stands = λ k v h. stands-exactly h .refused NoBinder (inr ((λ g. g p t), inr (right, inl ((p, (t, f)), refl))));
+    }
+
 -- a good program is written and run
-calls-accept : {table : List ℕ} {count : ℕ} {p : Tree program} → TableOf limit table count p → Good limit p → CallsAccept table count
+calls-accept : {table : Sheet} {count : ℕ} {p : Tree program} → Held limit table count p → Good limit p → CallsAccept table count
 calls-accept t g = record {
   writes = λ out v o l h. ap (λ (x : Values). x .refusal) (good-writes t g (omega arith) (omega arith) h .0);
   runs = λ work k v x w l h. ap (λ (x : Values). x .refusal) (good-runs t g (omega arith) h .0);
 }
 
 -- the numbers of a program with one outside its range are no program's that is admitted
-calls-out : {table : List ℕ} {count : ℕ} (p : Tree program) → take (2 * count) table ≡ preorder p → (InRange limit p → ⊥) → CallsGive table count 1
+calls-out : {table : Sheet} {count : ℕ} (p : Tree program) → take (2 * count) (table .numbers) ≡ preorder p → (InRange limit p → ⊥) → CallsGive table count 1
 calls-out p e f = calls-give-1 (λ q t. let same : q ≡ p = preorder-injective q p (sym (t .is) ∙ e) in f (rw same at (t .ranges)))
 
 -- and threads that are good stand in front of anything
-accept-one : (ts : List (Tree term)) (rest : List ℕ) → size ts ≤ limit → InRange limit (program-of ts) → Closed 0 (program-of ts) → All (λ t. OneAtMost (closures t)) ts → CallsAccept (preorder (program-of ts) ++ rest) (size ts)
-accept-one ts rest m r c a = let g = one-good ts m r c a in calls-accept (front-table rest g) g
+accept-one : (ts : List (Tree term)) (rest others : List ℕ) → size ts ≤ limit → InRange limit (program-of ts) → Closed 0 (program-of ts) → All (λ t. OneAtMost (closures t)) ts →
+    CallsAccept (sheet (preorder (program-of ts) ++ rest) (column (program-of ts) ++ others)) (size ts)
+accept-one ts rest others m r c a = let g = one-good ts m r c a in calls-accept (front-table rest others g) g
 
 -- the first number of a term is a kind from 2 to 10
 term-kind : (t : Tree term) (k : ℕ) (r q : List ℕ) → preorder t ++ r ≡ k ∷ q → (2 ≤ k) × (k ≤ 10)
@@ -360,56 +390,100 @@ unfolding nodes
 not-two empty e = omega arith
 not-two (alt t p) e = omega (arith, nodes-positive t, nodes-positive p)
 
-chain-held : (rest : List ℕ) → TableOf limit (1 ∷ 0 ∷ fresh-numbers 2045 (4 ∷ 0 ∷ 0 ∷ 0 ∷ rest)) 2048 (program-of (chain 2045))
-chain-held rest = rw (chain-table 2045 rest, chain-nodes 2045) at (front-table rest (chain-good 2045 (omega arith)))
+chain-held : (rest others : List ℕ) → Held limit (sheet (1 ∷ 0 ∷ fresh-numbers 2045 (4 ∷ 0 ∷ 0 ∷ 0 ∷ rest)) (2048 ∷ falling 2046 (1 ∷ others))) 2048 (program-of (chain 2045))
+chain-held rest others = rw (chain-table 2045 rest, chain-column 2045 others, chain-nodes 2045) at (front-table rest others (chain-good 2045 (omega arith)))
 
 pub table-boundaries : TableBoundaries
-unfolding preorder nodes threads program-of closures
+unfolding preorder nodes threads program-of closures column
 table-boundaries = record {
   no-nodes = λ table. calls-give-1 (λ p t. omega (arith, t .counts, nodes-positive p));
   one-too-many = λ table. calls-give-1 (λ p t. omega (arith, t .small));
   beyond = λ table count l. calls-give-1 (λ p t. omega (arith, t .within));
-  chain-in = λ rest. calls-accept (chain-held rest) (chain-good 2045 (omega arith));
-  kind-out = λ rest. calls-give-1 (λ p t. omega (arith, behind-alternative p 11 (0 ∷ 0 ∷ 0 ∷ []) (sym (t .is))));
-  term-for-program = λ rest. calls-give-1 (λ p t. omega (arith, first-kind p 4 0 [] (sym (t .is))));
-  program-for-term = λ rest. calls-give-1 (λ p t. omega (arith, behind-alternative p 0 (0 ∷ 0 ∷ 0 ∷ []) (sym (t .is))));
-  constructor-in = λ rest. accept-one (con 65535 ∷ []) rest (omega arith) (omega arith) (tt, tt) (tt, tt);
-  free-in = λ rest. accept-one (free 2047 ∷ []) rest (omega arith) (omega arith) (tt, tt) (tt, tt);
-  free-out = λ rest. calls-out (program-of (free 2048 ∷ [])) refl (λ r. omega arith);
-  location-in = λ rest. accept-one (abs (at 2047) empty ∷ []) rest (omega arith) (omega arith) (tt, tt) (tt, tt);
-  location-out = λ rest. calls-out (program-of (abs (at 2048) empty ∷ [])) refl (λ r. omega arith);
-  index-in = λ rest. calls-give-6 (front-held {p = program-of (bound 2047 ∷ [])} rest (omega arith) (omega arith)) (λ c. omega arith);
-  index-out = λ rest. calls-out (program-of (bound 2048 ∷ [])) refl (λ r. omega arith);
-  not-zero = λ rest. calls-give-1 (λ p t. omega (arith, first-kind p 0 1 [] (sym (t .is))));
-  ends-late = λ rest. calls-give-1 (λ p t. not-two p (t .counts));
-  ends-early = λ rest. calls-give-1 (λ p t. omega (arith, t .counts, one-empty p (0 ∷ 0 ∷ 0 ∷ 0 ∷ 0 ∷ []) (sym (t .is))));
+  chain-in = λ rest others. calls-accept (chain-held rest others) (chain-good 2045 (omega arith));
+  kind-out = λ rest sizes. calls-give-1 (λ p t. omega (arith, behind-alternative p 11 (0 ∷ 0 ∷ 0 ∷ []) (sym (t .is))));
+  term-for-program = λ rest sizes. calls-give-1 (λ p t. omega (arith, first-kind p 4 0 [] (sym (t .is))));
+  program-for-term = λ rest sizes. calls-give-1 (λ p t. omega (arith, behind-alternative p 0 (0 ∷ 0 ∷ 0 ∷ []) (sym (t .is))));
+  constructor-in = λ rest others. accept-one (con 65535 ∷ []) rest others (omega arith) (omega arith) (tt, tt) (tt, tt);
+  free-in = λ rest others. accept-one (free 2047 ∷ []) rest others (omega arith) (omega arith) (tt, tt) (tt, tt);
+  free-out = λ rest sizes. calls-out (program-of (free 2048 ∷ [])) refl (λ r. omega arith);
+  location-in = λ rest others. accept-one (abs (at 2047) empty ∷ []) rest others (omega arith) (omega arith) (tt, tt) (tt, tt);
+  location-out = λ rest sizes. calls-out (program-of (abs (at 2048) empty ∷ [])) refl (λ r. omega arith);
+  index-in = λ rest others. calls-give-6 (front-held {p = program-of (bound 2047 ∷ [])} rest others (omega arith) (omega arith)) (λ c. omega arith);
+  index-out = λ rest sizes. calls-out (program-of (bound 2048 ∷ [])) refl (λ r. omega arith);
+  not-zero = λ rest sizes. calls-give-1 (λ p t. omega (arith, first-kind p 0 1 [] (sym (t .is))));
+  ends-late = λ rest sizes. calls-give-1 (λ p t. not-two p (t .counts));
+  ends-early = λ rest sizes. calls-give-1 (λ p t. omega (arith, t .counts, one-empty p (0 ∷ 0 ∷ 0 ∷ 0 ∷ 0 ∷ []) (sym (t .is))));
+}
+
+-- The column.
+
+-- the numbers of a list that are below k
+refused-below : (cs : Refusals) (k : ℕ) (r : Refusal) → Below k cs → Refuses cs r → number r < k
+refused-below [] k r b g = absurd g
+refused-below (c ∷ cs) k r b (inl g) = omega (arith, b .0, ap number (g .1))
+refused-below (c ∷ cs) k r b (inr g) = refused-below cs k r (b .1) (g .1)
+
+-- 14 is given where its condition holds, and only there
+column-told : (table : Sheet) (count : ℕ) (cs : Refusals) (m : ℕ) → Below 14 cs → Exactly (no-program limit (table .numbers) count ∷ wrong-column limit table count ∷ cs) m → ColumnTold table count m
+column-told table count cs m b x = ((λ e. only (x .refused-only WrongColumn e)), λ w. x .refused WrongColumn (inr ((λ f. f (w .0) (w .1 .0)), inl (w, refl))))
+  where
+    only : Refuses (no-program limit (table .numbers) count ∷ wrong-column limit table count ∷ cs) WrongColumn → wrong-column limit table count .1
+    only (inl g) = absurd (omega (arith, ap number (g .1)))
+    only (inr (a, inl g)) = g .0
+    only (inr (a, inr g)) = absurd (omega (arith, refused-below cs 14 WrongColumn b (g .1)))
+
+-- `(c1 (g c1 c2))`
+behind-one : List (Tree term)
+behind-one = con 1 ∷ two guard (con 1) (con 2) ∷ []
+
+behind-one-good : Good limit (program-of behind-one)
+unfolding behind-one nodes program-of closures
+behind-one-good = one-good behind-one (omega arith) (omega arith) (omega arith) (tt, (tt, tt))
+
+pub column-boundaries : ColumnBoundaries
+unfolding preorder nodes threads program-of column behind-one
+column-boundaries = record {
+  writes = λ table count out v o h. column-told table count (behind (behind (write-refusals limit table count out))) (v .refusal) (write-ascends limit table count out .1 .1 .1) (writes-exactly h);
+  steps = λ table count out v o h. column-told table count (behind (behind (step-refusals limit table count out))) (v .refusal) (step-ascends limit table count out .1 .1 .1) (steps-exactly h);
+  runs = λ table count work k v t w h. column-told table count (behind (behind (run-refusals limit table count work))) (v .refusal) (run-ascends limit table count work .1 .1 .1) (runs-exactly h);
+  stands = λ table count k v h. column-told table count (behind (behind (thread-refusals limit table count k))) (v .refusal) (thread-ascends limit table count k .1 .1 .1) (stands-exactly h);
+  behind = λ numbers others count p t g. calls-accept (record { table-of = t; column-of = column-held p others count (t .counts) }) g;
+  fewer = λ numbers sizes count p t l. calls-give-14 p t (λ c. omega (arith, c .long));
+  right = λ rest others. calls-accept (front-table rest others behind-one-good) behind-one-good;
+  short = λ rest. calls-give-14 (program-of behind-one) (front-table rest [] behind-one-good .table-of) (λ c. omega (arith, c .long));
+  wrong = λ rest others. calls-give-14 (program-of behind-one) (front-table rest [] behind-one-good .table-of) (λ c. omega (arith, ap (λ (l : List ℕ). getD l 6 0) (c .is)));
+  before-binders = λ rest others. calls-give-14 (program-of (bound 0 ∷ [])) (front-held {p = program-of (bound 0 ∷ [])} rest [] (omega arith) (omega arith) .table-of) (λ c. omega (arith, ap (λ (l : List ℕ). getD l 1 0) (c .is)));
+  binders-next = λ rest others. calls-give-6 (front-held {p = program-of (bound 0 ∷ [])} rest others (omega arith) (omega arith)) (λ c. omega arith);
 }
 
 -- A table with a good program in it.
-module _ {table : List ℕ} {count : ℕ} {p : Tree program} (t : TableOf limit table count p) (g : Good limit p) where
+module _ {table : Sheet} {count : ℕ} {p : Tree program} (held : Held limit table count p) (g : Good limit p) where
   -- 9 of a write: its text is longer than the output
   write-gives-9 : {out : List ℕ} {v : Values} {o : List ℕ} → Writes limit table count out v o → length out < length (text p) → v .refusal ≡ 9
-  write-gives-9 h l = let a = good-table t g in writes-exactly h .refused NoRoom (inr (a .0, inr (a .1 .0, inr (a .1 .1 .0, inl ((p, (t, l)), refl)))))
+  write-gives-9 h l = let a = good-table held g in writes-exactly h .refused NoRoom (inr (a .0, inr (a .1 .0, inr (a .1 .1 .0, inr (a .1 .1 .1 .0, inl ((p, (held .table-of, l)), refl))))))
 
-  -- 9 of a run: the work table holds fewer nodes
-  run-gives-9 : {work : List ℕ} {k : ℕ} {v : Values} {x w : List ℕ} → RunsWith limit table count work k v x w → holds-nodes work < count → v .refusal ≡ 9
-  run-gives-9 h l = let a = good-table t g in runs-exactly h .refused NoRoom (inr (a .0, inr (a .1 .0, inr (a .1 .1 .0, inl (l, refl)))))
+  -- 9 of a run: the work table or its column holds fewer nodes
+  run-gives-9 : {work : Sheet} {k : ℕ} {v : Values} {x w : Sheet} → RunsWith limit table count work k v x w → holds work < count → v .refusal ≡ 9
+  run-gives-9 h l = let a = good-table held g in runs-exactly h .refused NoRoom (inr (a .0, inr (a .1 .0, inr (a .1 .1 .0, inr (a .1 .1 .1 .0, inl (l, refl))))))
 
   -- 10: it has no more threads
   no-thread : {k : ℕ} → length (threads p) ≤ k → Refuses (thread-refusals limit table count k) NoThread
-  no-thread l = let a = good-table t g in inr (a .0, inr (a .1 .0, inr (a .1 .1 .0, inl ((p, (t, l)), refl))))
+  no-thread l = let a = good-table held g in inr (a .0, inr (a .1 .0, inr (a .1 .1 .0, inr (a .1 .1 .1 .0, inl ((p, (held .table-of, l)), refl)))))
 
-  module _ {s : Step} (e : step (threads p) ≡ some s) {out : List ℕ} {v : Values} {o : List ℕ} (h : StepsInto limit table count out v o) where
+  module _ {s : Step} (e : step (threads p) ≡ some s) {out : Sheet} {v : Values} {o : Sheet} (h : StepsInto limit table count out v o) where
     -- 7 of a step: its result is beyond the limit
     step-gives-7 : limit < size (s .result) → v .refusal ≡ 7
-    step-gives-7 l = let a = good-table t g in steps-exactly h .refused TooManyNodes (inr (a .0, inr (a .1 .0, inl ((p, (s, (record { table-of = t; steps = e }, (g .coherent, l)))), refl))))
+    step-gives-7 l =
+        let a = good-table held g in
+        steps-exactly h .refused TooManyNodes (inr (a .0, inr (a .1 .0, inr (a .1 .1 .0, inl ((p, (s, (record { table-of = held .table-of; steps = e }, (g .coherent, l)))), refl)))))
 
-    -- 9 of a step: its result is within the limit, and the output does not hold it
-    step-gives-9 : size (s .result) ≤ limit → holds-nodes out < size (s .result) → v .refusal ≡ 9
+    -- 9 of a step: its result is within the limit, and the output or its column does not hold it
+    step-gives-9 : size (s .result) ≤ limit → holds out < size (s .result) → v .refusal ≡ 9
     step-gives-9 m l =
-        let a = good-table t g in
-        let one-step : (q : Tree program) (x : Step) → StepsTo limit table count q x → size (x .result) ≡ size (s .result) = λ q x k. let i = table-step t k in cc in
-        steps-exactly h .refused NoRoom (inr (a .0, inr (a .1 .0, inr ((λ k. omega (arith, k .1 .1 .1 .1, one-step (k .0) (k .1 .0) (k .1 .1 .0))), inr (a .1 .1 .0, inl ((p, (s, (record { table-of = t; steps = e }, l))), refl))))))
+        let a = good-table held g in
+        let t = held .table-of in
+        let one-step : (q : Tree program) (x : Step) → StepsTo limit (table .numbers) count q x → size (x .result) ≡ size (s .result) = λ q x k. let i = table-step t k in cc in
+        steps-exactly h .refused NoRoom (inr (a .0, inr (a .1 .0, inr (a .1 .1 .0, inr ((λ k. omega (arith, k .1 .1 .1 .1, one-step (k .0) (k .1 .0) (k .1 .1 .0))), inr (a .1 .1 .1 .0, inl ((p, (s, (record { table-of = t; steps = e }, l))), refl)))))))
 
 -- `(c1)`, `(c1 c2)` and `((g c1 c2))`
 one-con : Good limit (program-of (con 1 ∷ []))
@@ -504,22 +578,24 @@ beta-told : ℕ → Values
 beta-told k = record { refusal = 0; values = k ∷ 2 ∷ 0 ∷ [] }
 
 pub call-boundaries : CallBoundaries
-unfolding ascii preorder nodes threads program-of digits decimal bytes encode raw raw-text text guarded four three step beta-told nodes-before
+unfolding ascii preorder nodes threads program-of digits decimal bytes encode raw raw-text text column guarded four three step beta-told nodes-before
 call-boundaries = record {
-  write-in = λ rest out v o l h. writes-iff h .1 (record { program = program-of (con 1 ∷ []); table-of = front-table rest one-con; good = one-con; held = omega arith });
-  write-out = λ rest out v o l h. write-gives-9 (front-table rest one-con) one-con h (omega arith);
-  step-in = λ rest out v o l h. refusal-of (good-steps (front-table rest guarded-good) guarded-good guarded-step (omega arith) (omega arith) h .0);
-  step-out = λ rest out v o l h. step-gives-9 (front-table rest guarded-good) guarded-good guarded-step h (omega arith) (omega arith);
+  write-in = λ rest others out v o l h. writes-iff h .1 (record { program = program-of (con 1 ∷ []); there = front-table rest others one-con; good = one-con; held = omega arith });
+  write-out = λ rest others out v o l h. write-gives-9 (front-table rest others one-con) one-con h (omega arith);
+  step-in = λ rest others out v o l h. refusal-of (good-steps (front-table rest others guarded-good) guarded-good guarded-step (omega arith) (omega (arith, l .0, l .1)) h .0);
+  step-out = λ rest others out v o l h. step-gives-9 (front-table rest others guarded-good) guarded-good guarded-step h (omega arith) (omega arith);
+  step-column-out = λ rest others out v o l h. step-gives-9 (front-table rest others guarded-good) guarded-good guarded-step h (omega arith) (omega arith);
   result-in = λ out v o t l h. good-steps t (twice-good 1018 (omega arith)) (put-step pair 1018) (omega (arith, twice-result 1018)) (omega (arith, twice-result 1018)) h .0 ∙ ap beta-told (twice-result 1018);
   result-out = λ out v o t h. step-gives-7 t (twice-and-one-good 1018 (omega arith)) (put-step pair-and-one 1018) h (omega (arith, twice-and-one-result 1018));
-  no-threads = λ rest out v o h. refusal-of (good-stopped (front-table rest (one-good [] (omega arith) tt tt tt)) (one-good [] (omega arith) tt tt tt) refl h .0);
-  rule-and-thread = λ rest out v o l h. good-steps (front-table rest four-good) four-good four-step (omega arith) (omega arith) h .0;
-  run-in = λ rest work k v t w l h. refusal-of (good-runs (front-table rest one-con) one-con (omega arith) h .0);
-  run-out = λ rest work k v t w l h. run-gives-9 (front-table rest one-con) one-con h (omega arith);
+  no-threads = λ rest others out v o h. refusal-of (good-stopped (front-table rest others (one-good [] (omega arith) tt tt tt)) (one-good [] (omega arith) tt tt tt) refl h .0);
+  rule-and-thread = λ rest others out v o l h. good-steps (front-table rest others four-good) four-good four-step (omega arith) (omega arith) h .0;
+  run-in = λ rest others work k v t w l h. refusal-of (good-runs (front-table rest others one-con) one-con (omega (arith, l .0, l .1)) h .0);
+  run-out = λ rest others work k v t w l h. run-gives-9 (front-table rest others one-con) one-con h (omega arith);
+  run-column-out = λ rest others work k v t w l h. run-gives-9 (front-table rest others one-con) one-con h (omega arith);
   thread-in = λ {k = k} t g l h. stands-exactly h .accepted (stands-accepted k t g l);
   thread-out = λ t g l h. stands-exactly h .refused NoThread (no-thread t g l);
-  part-in = λ rest start l h. parts-once h (part (con 2) (stands-accepted 1 (front-table rest two-con) two-con (omega arith)) (record { before = con 1 ∷ []; after = []; table-of = front-table rest two-con; place = refl }));
-  part-out = λ rest start l h. parts-once h (no-part NoThread (no-thread (front-table rest two-con) two-con (omega arith)));
+  part-in = λ rest others start l h. parts-once h (part (con 2) (stands-accepted 1 (front-table rest others two-con) two-con (omega arith)) (record { before = con 1 ∷ []; after = []; table-of = front-table rest others two-con .table-of; place = refl }));
+  part-out = λ rest others start l h. parts-once h (no-part NoThread (no-thread (front-table rest others two-con) two-con (omega arith)));
 }
 
 -- The run.
@@ -563,32 +639,46 @@ twice-goes k room l = goes-on room 0 (uncounted (twice k)) (put-step pair k) (om
 told : ℕ → ℕ → ℕ → List ℕ → Values
 told r m k c = record { refusal = 0; values = r ∷ m ∷ k ∷ c }
 
-module _ {table : List ℕ} {count : ℕ} {work : List ℕ} {v : Values} {x w : List ℕ} (r : RunsWith limit table count work 1 v x w) where
+module _ {table : Sheet} {count : ℕ} {work : Sheet} {v : Values} {x w : Sheet} (r : RunsWith limit table count work 1 v x w) where
   -- one step in a room for its result
-  goes-once : (k : ℕ) → TableOf limit table count (program-of (twice k)) → count ≤ holds-nodes work → 2 * k + 12 ≤ room-of limit table work → v ≡ told 2 (2 * k + 12) 1 one-beta
+  goes-once : (k : ℕ) → Held limit table count (program-of (twice k)) → count ≤ holds work → 2 * k + 12 ≤ room-of limit table work → v ≡ told 2 (2 * k + 12) 1 one-beta
   unfolding told
   goes-once k h l m =
-      let g = twice-good k (omega (arith, h .counts, h .small, twice-nodes k)) in
+      let g = twice-good k (omega (arith, h .table-of .counts, h .table-of .small, twice-nodes k)) in
       runs-to (twice k) h g l (twice-goes k (room-of limit table work) m) r .0 ∙ ap (λ (y : ℕ). told 2 y 1 one-beta) (twice-result k)
 
   -- none in a smaller one
-  stops-at-once : (t : Tree term) (k : ℕ) → TableOf limit table count (program-of (put-into t k)) → Good limit (program-of (put-into t k)) → count ≤ holds-nodes work → room-of limit table work < size (result-of t k) → v ≡ told 3 count 0 no-step
+  stops-at-once : (t : Tree term) (k : ℕ) → Held limit table count (program-of (put-into t k)) → Good limit (program-of (put-into t k)) → count ≤ holds work → room-of limit table work < size (result-of t k) → v ≡ told 3 count 0 no-step
   unfolding told
-  stops-at-once t k h g l m = runs-to (put-into t k) h g l (put-stops t k (room-of limit table work) m) r .0 ∙ ap (λ (y : ℕ). told 3 y 0 no-step) (h .counts)
+  stops-at-once t k h g l m = runs-to (put-into t k) h g l (put-stops t k (room-of limit table work) m) r .0 ∙ ap (λ (y : ℕ). told 3 y 0 no-step) (h .table-of .counts)
+
+  -- 18 nodes that become 20, with room for fewer
+  stops-short : Held limit table count (program-of (twice 4)) → count ≤ holds work → room-of limit table work < 20 → v ≡ told 3 18 0 no-step
+  stops-short h l m =
+      stops-at-once pair 4 h (twice-good 4 (omega arith)) l (omega (arith, twice-result 4)) ∙ ap (λ (y : ℕ). told 3 y 0 no-step) (sym (h .table-of .counts) ∙ twice-nodes 4)
+
+-- the nodes of 18 in a work table
+eighteen : {table : Sheet} {count m : ℕ} → Held limit table count (program-of (twice 4)) → 18 ≤ m → count ≤ m
+eighteen h l = omega (arith, h .table-of .counts, twice-nodes 4)
 
 pub run-boundaries : RunBoundaries
-unfolding preorder nodes program-of guarded told
+unfolding preorder nodes program-of column guarded told
 run-boundaries = record {
-  zeros = λ a b c d e f g h i j k v t w r.
-      let z = runs-to guarded (front-table (a ∷ []) guarded-good) guarded-good (omega arith) (guarded-run 5 0 (omega arith)) r in
-      (z .0, z .1, run-gives r (refusal-of (z .0)) .cleared);
-  no-steps = λ rest work v t w l r. runs-to guarded (front-table rest guarded-good) guarded-good (omega arith) (guarded-stays (room-of limit (preorder (program-of guarded) ++ rest) work)) r .0;
-  end-first = λ rest work v t w l r. runs-to (con 1 ∷ []) (front-table rest one-con) one-con (omega arith) (con-ends (room-of limit (preorder (program-of (con 1 ∷ [])) ++ rest) work)) r .0;
+  zeros = λ a b c work v t w l r.
+      let room = room-of limit (sheet (preorder (program-of guarded) ++ (a ∷ [])) (column (program-of guarded) ++ (b ∷ c ∷ []))) work in
+      let z = runs-to guarded (front-table (a ∷ []) (b ∷ c ∷ []) guarded-good) guarded-good (omega (arith, l .0, l .1)) (guarded-run room 0 (omega (arith, l .0, l .1))) r in
+      (z .0, z .1, rw (l .0, l .1) at (run-gives r (refusal-of (z .0)) .cleared));
+  no-steps = λ rest others work v t w l r.
+      runs-to guarded (front-table rest others guarded-good) guarded-good (omega arith) (guarded-stays (room-of limit (sheet (preorder (program-of guarded) ++ rest) (column (program-of guarded) ++ others)) work)) r .0;
+  end-first = λ rest others work v t w l r.
+      runs-to (con 1 ∷ []) (front-table rest others one-con) one-con (omega arith) (con-ends (room-of limit (sheet (preorder (program-of (con 1 ∷ [])) ++ rest) (column (program-of (con 1 ∷ [])) ++ others)) work)) r .0;
   limit-first = λ {table} work v t w h l m r.
-      runs-to (twice 4) h (twice-good 4 (omega arith)) (omega (arith, h .counts, twice-nodes 4)) (put-stays pair 4 (room-of limit table work)) r .0 ∙ ap (λ (y : ℕ). told 2 y 0 no-step) (twice-nodes 4);
-  room-in = λ work v t w h l m r. goes-once r 4 h (omega (arith, h .counts, twice-nodes 4)) (omega arith);
-  table-short = λ work v t w h l m r. stops-at-once r pair 4 h (twice-good 4 (omega arith)) (omega (arith, h .counts, twice-nodes 4)) (omega (arith, twice-result 4)) ∙ ap (λ (y : ℕ). told 3 y 0 no-step) (sym (h .counts) ∙ twice-nodes 4);
-  work-short = λ work v t w h l m r. stops-at-once r pair 4 h (twice-good 4 (omega arith)) (omega (arith, h .counts, twice-nodes 4)) (omega (arith, twice-result 4)) ∙ ap (λ (y : ℕ). told 3 y 0 no-step) (sym (h .counts) ∙ twice-nodes 4);
-  limit-in = λ work v t w h l m r. goes-once r 1018 h (omega (arith, h .counts, twice-nodes 1018)) (omega arith);
-  limit-out = λ work v t w h l m r. stops-at-once r pair-and-one 1018 h (twice-and-one-good 1018 (omega arith)) (omega (arith, h .counts, twice-and-one-nodes 1018)) (omega (arith, twice-and-one-result 1018)) ∙ ap (λ (y : ℕ). told 3 y 0 no-step) (sym (h .counts) ∙ twice-and-one-nodes 1018);
+      runs-to (twice 4) h (twice-good 4 (omega arith)) (eighteen h (omega (arith, m .0, m .1))) (put-stays pair 4 (room-of limit table work)) r .0 ∙ ap (λ (y : ℕ). told 2 y 0 no-step) (twice-nodes 4);
+  room-in = λ work v t w h l m r. goes-once r 4 h (eighteen h (omega (arith, m .0, m .1))) (omega (arith, l .0, l .1, m .0, m .1));
+  table-short = λ work v t w h l m r. stops-short r h (eighteen h (omega (arith, m .0, m .1))) (omega (arith, l .0, l .1, m .0, m .1));
+  column-short = λ work v t w h l m r. stops-short r h (eighteen h (omega (arith, m .0, m .1))) (omega (arith, l .0, l .1, m .0, m .1));
+  work-short = λ work v t w h l m r. stops-short r h (eighteen h (omega (arith, m .0, m .1))) (omega (arith, l .0, l .1, m .0, m .1));
+  work-column-short = λ work v t w h l m r. stops-short r h (eighteen h (omega (arith, m .0, m .1))) (omega (arith, l .0, l .1, m .0, m .1));
+  limit-in = λ work v t w h l m r. goes-once r 1018 h (omega (arith, h .table-of .counts, twice-nodes 1018)) (omega arith);
+  limit-out = λ work v t w h l m r. stops-at-once r pair-and-one 1018 h (twice-and-one-good 1018 (omega arith)) (omega (arith, h .table-of .counts, twice-and-one-nodes 1018)) (omega (arith, twice-and-one-result 1018)) ∙ ap (λ (y : ℕ). told 3 y 0 no-step) (sym (h .table-of .counts) ∙ twice-and-one-nodes 1018);
 }

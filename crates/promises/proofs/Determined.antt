@@ -1,5 +1,5 @@
--- Document 01 (a) over the calls: a contract allows one answer, and one content of every lent buffer, for any node limit n. The answers are the enums of the
--- calls and the structs of the exported functions.
+-- Document 01 (a) over the calls: a contract allows one answer, and one content of every lent buffer, columns among them, for any node limit n. The answers are the
+-- enums of the calls and the structs of the exported functions.
 use mathlib.Core.Path.{_≡_, sym, ap, _∙_}
 use mathlib.Core.List.{List}
 use Prim.Native.Nat.{ℕ, _+_, _*_}
@@ -8,11 +8,12 @@ use Rattle.calculus.specs.declared.Counted.{Counted}
 use Rattle.calculus.specs.declared.Stepped.{Stepped}
 use Rattle.calculus.specs.declared.Ran.{Ran}
 use Rattle.calculus.specs.declared.Stood.{Stood}
+use Rattle.calculus.specs.Sheets.{Sheet}
 use Rattle.calculus.specs.Answers.{Values, countedValues, steppedValues, ranValues, stoodValues}
 use Rattle.calculus.specs.Calls.{Reads, Writes, StepsInto, RunsWith, StandsAt}
 use Rattle.calculus.proofs.Answers.{same-refusal, same-value, six-injective, counted-once, stepped-once, ran-once, stood-once}
 use Rattle.calculus.proofs.Outcomes.{reads-once, writes-once, steps-once, runs-once, stands-once, parts-once}
-use Rattle.table.specs.Threads.{SpanOf, ThreadPart}
+use Rattle.threads.specs.Places.{SpanOf, ThreadPart}
 use Rattle.mespindro.specs.declared.exports.Count.{Count}
 use Rattle.mespindro.specs.declared.exports.Move.{Move}
 use Rattle.mespindro.specs.declared.exports.Stop.{Stop}
@@ -44,11 +45,11 @@ pub stand-once : (x y : Stand) → standValues x ≡ standValues y → x ≡ y
 stand-once x y e = let same : _≡_ {A = Stand} (record { standing = x .standing; refusal = x .refusal }) y = rw (same-value 0 e, same-refusal e) in same
 
 -- answers whose values are the same are equal, and the output is as said
-told : {A : Type 0} {f : A → Values} {o u : List ℕ} → ((x y : A) → f x ≡ f y → x ≡ y) → (x y : A) → (f x ≡ f y) × (o ≡ u) → (x ≡ y) × (o ≡ u)
+told : {A B : Type 0} {f : A → Values} {o u : B} → ((x y : A) → f x ≡ f y → x ≡ y) → (x y : A) → (f x ≡ f y) × (o ≡ u) → (x ≡ y) × (o ≡ u)
 told once x y e = (once x y (e .0), e .1)
 
-module _ {n : ℕ} {b out o u : List ℕ} where
-  -- a read: the answer and the output
+module _ {n : ℕ} {b : List ℕ} {out o u : Sheet} where
+  -- a read: the answer, the output and its column
   pub read-determined : (x y : Counted) → Reads n b out (countedValues x) o → Reads n b out (countedValues y) u → (x ≡ y) × (o ≡ u)
   read-determined x y h k = told counted-once x y (reads-once h k)
 
@@ -56,7 +57,7 @@ module _ {n : ℕ} {b out o u : List ℕ} where
   pub exported-read-determined : (x y : Count) → Reads n b out (countValues x) o → Reads n b out (countValues y) u → (x ≡ y) × (o ≡ u)
   exported-read-determined x y h k = told count-once x y (reads-once h k)
 
-module _ {n : ℕ} {table : List ℕ} {count : ℕ} where
+module _ {n : ℕ} {table : Sheet} {count : ℕ} where
   module _ {out o u : List ℕ} where
     -- a write
     pub write-determined : (x y : Counted) → Writes n table count out (countedValues x) o → Writes n table count out (countedValues y) u → (x ≡ y) × (o ≡ u)
@@ -66,6 +67,7 @@ module _ {n : ℕ} {table : List ℕ} {count : ℕ} where
     pub exported-write-determined : (x y : Count) → Writes n table count out (countValues x) o → Writes n table count out (countValues y) u → (x ≡ y) × (o ≡ u)
     exported-write-determined x y h k = told count-once x y (writes-once h k)
 
+  module _ {out o u : Sheet} where
     -- a step
     pub step-determined : (x y : Stepped) → StepsInto n table count out (steppedValues x) o → StepsInto n table count out (steppedValues y) u → (x ≡ y) × (o ≡ u)
     step-determined x y h k = told stepped-once x y (steps-once h k)
@@ -74,8 +76,8 @@ module _ {n : ℕ} {table : List ℕ} {count : ℕ} where
     pub exported-step-determined : (x y : Move) → StepsInto n table count out (moveValues x) o → StepsInto n table count out (moveValues y) u → (x ≡ y) × (o ≡ u)
     exported-step-determined x y h k = told move-once x y (steps-once h k)
 
-  module _ {work : List ℕ} {limit : ℕ} {t w p q : List ℕ} where
-    -- a run: the answer, the table and the work table
+  module _ {work : Sheet} {limit : ℕ} {t w p q : Sheet} where
+    -- a run: the answer, the table, the work table and their columns
     pub run-determined : (x y : Ran) → RunsWith n table count work limit (ranValues x) t w → RunsWith n table count work limit (ranValues y) p q → (x ≡ y) × (t ≡ p) × (w ≡ q)
     run-determined x y h k = let e = runs-once h k in (ran-once x y (e .0), e .1, e .2)
 

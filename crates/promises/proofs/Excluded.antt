@@ -16,17 +16,19 @@ use Rattle.calculus.specs.Value.{single, structure, value}
 use Rattle.calculus.specs.Unify.{one, all, shape, takes, carry, meet, solve, unify}
 use Rattle.calculus.specs.Redex.{plug, own, redexes}
 use Rattle.calculus.specs.Step.{least-from, variable-for, rewriting, first, step-thread, Step, step}
-use Rattle.calculus.specs.Run.{End, size, holds-nodes, room-of}
+use Rattle.calculus.specs.Sheets.{Sheet, holds}
+use Rattle.calculus.specs.Run.{End, size, room-of}
 use Rattle.calculus.specs.Tally.{no-counts, one-more, Tally, uncounted, counted-run}
 use Rattle.calculus.specs.Text.{text}
 use Rattle.calculus.specs.Good.{InRange, Closed, Holds, Coherent, All, Good}
 use Rattle.calculus.specs.Answers.{Values}
-use Rattle.calculus.specs.Calls.{front, TextOf, Reads, TableOf, end-table, ran-values, StepsInto, RunsWith}
+use Rattle.calculus.specs.Calls.{front, put-front, TextOf, Reads, end-table, ran-values, StepsInto, RunsWith}
 use Rattle.calculus.proofs.Alls.{all-each}
 use Rattle.calculus.proofs.Preorders.{threads-of-program}
 use Rattle.calculus.proofs.Texts.{text-injective}
 use Rattle.calculus.proofs.Tallies.{counted-ended, counted-goes, counted-tells}
 use Rattle.calculus.proofs.Exclusions.{step-accepts, reader-accepts}
+use Rattle.promises.specs.Worked.{Held}
 use Rattle.promises.specs.Rules.{steps-told}
 use Rattle.promises.proofs.Refused.{reads-exactly}
 use Rattle.promises.proofs.Worked.{good-steps, good-runs}
@@ -122,33 +124,33 @@ pub one-good : {n : ℕ} (ts : List (Tree term)) → size ts ≤ n → InRange n
 one-good ts l r c o = record { small = l; ranges = r; closed = c; coherent = rw threads-of-program (all-each (λ t. OneAtMost (closures t)) Coherent ts one-coherent o) }
 
 -- threads that stand in a table are within the limit and in range
-held-good : {n : ℕ} {table : List ℕ} {count : ℕ} (ts : List (Tree term)) → TableOf n table count (program-of ts) → Closed 0 (program-of ts) → All (λ t. OneAtMost (closures t)) ts → Good n (program-of ts)
-held-good ts h c o = one-good ts (omega (arith, h .counts, h .small)) (h .ranges) c o
+held-good : {n : ℕ} {table : Sheet} {count : ℕ} (ts : List (Tree term)) → Held n table count (program-of ts) → Closed 0 (program-of ts) → All (λ t. OneAtMost (closures t)) ts → Good n (program-of ts)
+held-good ts h c o = one-good ts (omega (arith, h .table-of .counts, h .table-of .small)) (h .table-of .ranges) c o
 
 -- a counted run that stopped, with its counts
 abbrev pub stopped : Reason → ℕ → List (Tree term) → Counts → End (Tally (List (Tree term)))
 stopped r k ts c = record { reason = r; taken = k; last = record { state = ts; counts = c } }
 
 -- with the counted run of the threads in hand
-pub runs-to : {n : ℕ} {table : List ℕ} {count : ℕ} {work : List ℕ} {limit : ℕ} {v : Values} {t w : List ℕ} {r : Reason} {k : ℕ} {q : List (Tree term)} {c : Counts} (ts : List (Tree term)) →
-    TableOf n table count (program-of ts) → Good n (program-of ts) → count ≤ holds-nodes work → counted-run (room-of n table work) limit (uncounted ts) ≡ stopped r k q c → RunsWith n table count work limit v t w →
+pub runs-to : {n : ℕ} {table : Sheet} {count : ℕ} {work : Sheet} {limit : ℕ} {v : Values} {t w : Sheet} {r : Reason} {k : ℕ} {q : List (Tree term)} {c : Counts} (ts : List (Tree term)) →
+    Held n table count (program-of ts) → Good n (program-of ts) → count ≤ holds work → counted-run (room-of n table work) limit (uncounted ts) ≡ stopped r k q c → RunsWith n table count work limit v t w →
     (v ≡ ran-values (record { reason = r; taken = k; last = q }) c) × (t ≡ end-table table q)
 runs-to {n} {table} {work = work} {limit} ts h g l i z = let (j, d) = counted-tells (room-of n table work) limit ts i in rw (threads-of-program ts, j, d) at (good-runs h g l z)
 
 -- A reader may not always refuse: the text `()` is read under every limit, whatever the output holds.
-pub reader-must-read : {n : ℕ} {out : List ℕ} {v : Values} {o : List ℕ} → Reads n (text empty) out v o → 1 ≤ n → 1 ≤ holds-nodes out → v .refusal ≡ 0
+pub reader-must-read : {n : ℕ} {out : Sheet} {v : Values} {o : Sheet} → Reads n (text empty) out v o → 1 ≤ n → 1 ≤ holds out → v .refusal ≡ 0
 unfolding nodes
 reader-must-read {n} i l r =
-    let a = reads-exactly (reader-accepts n 0 0 l) .accepted-only refl in
+    let a = reads-exactly (reader-accepts n 0 0 0 l) .accepted-only refl in
     let fits : (p : Tree program) → TextOf n (text empty) p → nodes p ≡ 1 = λ p t. ap nodes (text-injective p empty (t .is)) in
     reads-exactly i .accepted (a .0, (a .1 .0, (a .1 .1 .0, (a .1 .1 .1 .0, (a .1 .1 .1 .1 .0, (a .1 .1 .1 .1 .1 .0, (a .1 .1 .1 .1 .1 .1 .0, ((λ k. omega (arith, k .1 .1, fits (k .0) (k .1 .0))), tt))))))))
 
 -- Nor may a step: `((n b0))` steps to `(x0)`.
-pub step-must-step : {n : ℕ} {table : List ℕ} {count : ℕ} {out : List ℕ} {v : Values} {o : List ℕ} → TableOf n table count (program-of (fresh (bound 0) ∷ [])) → 3 ≤ holds-nodes out → StepsInto n table count out v o →
-    (v .refusal ≡ 0) × (o ≡ front (preorder (program-of (free 0 ∷ []))) out)
+pub step-must-step : {n : ℕ} {table : Sheet} {count : ℕ} {out : Sheet} {v : Values} {o : Sheet} → Held n table count (program-of (fresh (bound 0) ∷ [])) → 3 ≤ holds out → StepsInto n table count out v o →
+    (v .refusal ≡ 0) × (o ≡ put-front (program-of (free 0 ∷ [])) out)
 unfolding nodes program-of closures
 step-must-step h r i =
-    let z = good-steps h (held-good (fresh (bound 0) ∷ []) h (omega arith) (tt, tt)) (ap step (threads-of-program (fresh (bound 0) ∷ [])) ∙ step-accepts) (omega (arith, h .counts, h .small)) (omega arith) i in
+    let z = good-steps h (held-good (fresh (bound 0) ∷ []) h (omega arith) (tt, tt)) (ap step (threads-of-program (fresh (bound 0) ∷ [])) ∙ step-accepts) (omega (arith, h .table-of .counts, h .table-of .small)) (omega arith) i in
     (ap (λ (v : Values). v .refusal) (z .0), z .1)
 
 -- the run of one constructor ends in it at once
@@ -156,26 +158,26 @@ constructor-end : (room limit c : ℕ) → counted-run room limit (uncounted (co
 unfolding substitute own redexes first step-thread step
 constructor-end room limit c = counted-ended (uncounted (con c ∷ [])) room limit refl
 
-leaves-constructor : {n : ℕ} {table : List ℕ} {count c : ℕ} {work : List ℕ} {k : ℕ} {v : Values} {t w : List ℕ} → TableOf n table count (program-of (con c ∷ [])) → count ≤ holds-nodes work → RunsWith n table count work k v t w → take 4 t ≡ 1 ∷ 0 ∷ 4 ∷ c ∷ []
+leaves-constructor : {n : ℕ} {table : Sheet} {count c : ℕ} {work : Sheet} {k : ℕ} {v : Values} {t w : Sheet} → Held n table count (program-of (con c ∷ [])) → count ≤ holds work → RunsWith n table count work k v t w → take 4 (t .numbers) ≡ 1 ∷ 0 ∷ 4 ∷ c ∷ []
 unfolding closures preorder program-of
 leaves-constructor {n} {table} {c = c} {work} {k} h l r = rw (runs-to (con c ∷ []) h (held-good (con c ∷ []) h (omega arith) (tt, tt)) l (constructor-end (room-of n table work) k c) r .1)
 
 -- One fixed end program does not serve: what a run leaves of `(c1)` differs from what a run leaves of `(c2)` in the first four numbers, whatever the limits.
-pub ends-must-differ : {n : ℕ} {table table′ : List ℕ} {count count′ : ℕ} {work work′ : List ℕ} {k k′ : ℕ} {v v′ : Values} {t t′ w w′ : List ℕ} →
-    TableOf n table count (program-of (con 1 ∷ [])) → TableOf n table′ count′ (program-of (con 2 ∷ [])) → count ≤ holds-nodes work → count′ ≤ holds-nodes work′ →
-    RunsWith n table count work k v t w → RunsWith n table′ count′ work′ k′ v′ t′ w′ → take 4 t ≡ take 4 t′ → ⊥
+pub ends-must-differ : {n : ℕ} {table table′ : Sheet} {count count′ : ℕ} {work work′ : Sheet} {k k′ : ℕ} {v v′ : Values} {t t′ w w′ : Sheet} →
+    Held n table count (program-of (con 1 ∷ [])) → Held n table′ count′ (program-of (con 2 ∷ [])) → count ≤ holds work → count′ ≤ holds work′ →
+    RunsWith n table count work k v t w → RunsWith n table′ count′ work′ k′ v′ t′ w′ → take 4 (t .numbers) ≡ take 4 (t′ .numbers) → ⊥
 ends-must-differ {table = table} {table′} h h′ l l′ r r′ e =
     let a = leaves-constructor h l r in
     let a′ = leaves-constructor h′ l′ r′ in
     let z : _≡_ {A = ℕ} 1 2 = cc in omega arith
 
 -- A step may not copy its input: `((g c1 c2))` does not step to itself.
-pub step-must-not-copy : {n : ℕ} {table : List ℕ} {count : ℕ} {out : List ℕ} {v : Values} {o : List ℕ} → TableOf n table count (program-of (two guard (con 1) (con 2) ∷ [])) → 3 ≤ holds-nodes out → StepsInto n table count out v o →
-    o ≡ front (preorder (program-of (two guard (con 1) (con 2) ∷ []))) out → ⊥
+pub step-must-not-copy : {n : ℕ} {table : Sheet} {count : ℕ} {out : Sheet} {v : Values} {o : Sheet} → Held n table count (program-of (two guard (con 1) (con 2) ∷ [])) → 3 ≤ holds out → StepsInto n table count out v o →
+    o .numbers ≡ front (preorder (program-of (two guard (con 1) (con 2) ∷ []))) (out .numbers) → ⊥
 unfolding nodes preorder program-of closures substitute single structure value plug own redexes rewriting first step-thread step
 step-must-not-copy h r i e =
     let ts = two guard (con 1) (con 2) ∷ [] in
-    let z = good-steps h (held-good ts h (omega arith) (tt, tt)) (ap step (threads-of-program ts)) (omega (arith, h .counts, h .small)) (omega arith) i .1 in
+    let z = ap (λ (s : Sheet). s .numbers) (good-steps h (held-good ts h (omega arith) (tt, tt)) (ap step (threads-of-program ts)) (omega (arith, h .table-of .counts, h .table-of .small)) (omega arith) i .1) in
     let y : _≡_ {A = ℕ} 4 9 = cc in omega arith
 
 -- one step of a counted run, its result within the room
@@ -206,15 +208,15 @@ two-threads-run room limit l k =
     (goes-on room (suc (suc j)) (at a 0 1) refl (omega arith) (goes-on room (suc j) (at b 1 1) refl (omega arith) (goes-on room j (at c 1 2) refl (omega arith) (counted-ended (at d 2 2) room j refl)))))
 
 -- A run may not work its first thread alone: with `x0` in both, each thread of `((g (u x0 c1) x0) (g (u x0 c2) x0))` is worked with bindings of its own, 4 steps in all.
-pub run-must-work-every-thread : {n : ℕ} {table : List ℕ} {count : ℕ} {work : List ℕ} {limit : ℕ} {v : Values} {t w : List ℕ} →
-    TableOf n table count (program-of two-threads) → count ≤ holds-nodes work → 4 ≤ limit → RunsWith n table count work limit v t w →
+pub run-must-work-every-thread : {n : ℕ} {table : Sheet} {count : ℕ} {work : Sheet} {limit : ℕ} {v : Values} {t w : Sheet} →
+    Held n table count (program-of two-threads) → count ≤ holds work → 4 ≤ limit → RunsWith n table count work limit v t w →
     (v ≡ ran-values (record { reason = Ended; taken = 4; last = con 1 ∷ con 2 ∷ [] }) two-goals) × (t ≡ end-table table (con 1 ∷ con 2 ∷ []))
 unfolding nodes program-of closures
-run-must-work-every-thread {n} {table} {count} {work} {limit} h l k r = runs-to two-threads h (held-good two-threads h (omega arith) (tt, (tt, tt))) l (two-threads-run (room-of n table work) limit (omega (arith, h .counts, h .small, h .within)) k) r
+run-must-work-every-thread {n} {table} {count} {work} {limit} h l k r = runs-to two-threads h (held-good two-threads h (omega arith) (tt, (tt, tt))) l (two-threads-run (room-of n table work) limit (omega (arith, h .table-of .counts, h .table-of .small, h .table-of .within, h .column-of .long)) k) r
 
 -- The step count may not be made up: `()` takes none, `((g c1 c2))` takes one.
-pub count-must-be-right : {n : ℕ} {table table′ : List ℕ} {count count′ : ℕ} {work work′ : List ℕ} {k k′ : ℕ} {v v′ : Values} {t t′ w w′ : List ℕ} →
-    TableOf n table count empty → TableOf n table′ count′ (program-of (two guard (con 1) (con 2) ∷ [])) → count ≤ holds-nodes work → count′ ≤ holds-nodes work′ → 1 ≤ k′ →
+pub count-must-be-right : {n : ℕ} {table table′ : Sheet} {count count′ : ℕ} {work work′ : Sheet} {k k′ : ℕ} {v v′ : Values} {t t′ w w′ : Sheet} →
+    Held n table count empty → Held n table′ count′ (program-of (two guard (con 1) (con 2) ∷ [])) → count ≤ holds work → count′ ≤ holds work′ → 1 ≤ k′ →
     RunsWith n table count work k v t w → RunsWith n table′ count′ work′ k′ v′ t′ w′ → (steps-told v ≡ 0) × (steps-told v′ ≡ 1)
 unfolding nodes program-of closures substitute single structure value plug own redexes rewriting first step-thread step
 count-must-be-right {n} {table} {table′} {work = work} {work′} {k} {k′} h h′ l l′ m r r′ =
@@ -224,7 +226,7 @@ count-must-be-right {n} {table} {table′} {work = work} {work′} {k} {k′} h 
     let e : k′ ≡ suc j = omega arith in
     let room = room-of n table′ work′ in
     let c : Counts = one-more no-counts Guard in
-    let i : counted-run room k′ (uncounted ts) ≡ stopped Ended 1 d c = rw e (goes-on room j (uncounted ts) refl (omega (arith, h′ .counts, h′ .small, h′ .within)) (counted-ended (record { state = d; counts = c }) room j refl)) in (
+    let i : counted-run room k′ (uncounted ts) ≡ stopped Ended 1 d c = rw e (goes-on room j (uncounted ts) refl (omega (arith, h′ .table-of .counts, h′ .table-of .small, h′ .table-of .within, h′ .column-of .long)) (counted-ended (record { state = d; counts = c }) room j refl)) in (
       ap steps-told (runs-to [] h (held-good [] h tt tt) l (counted-ended (uncounted []) (room-of n table work) k refl) r .0),
       ap steps-told (runs-to ts h′ (held-good ts h′ (omega arith) (tt, tt)) l′ i r′ .0),
     )
@@ -244,8 +246,8 @@ one-goal-run room limit l k =
     (goes-on room (suc j) (at (two guard (two unif (free 0) (con 1)) (free 0) ∷ []) 0 0) refl (omega arith) (goes-on room j (at (two guard (con 0) (con 1) ∷ []) 0 1) refl (omega arith) (counted-ended (at (con 1 ∷ []) 1 1) room j refl))))
 
 -- The six counts may not be made up: a run of `((n (g (u b0 c1) b0)))` takes a step each by fresh, guard and unif, and no other, in every room that holds it.
-pub counts-must-be-right : {n : ℕ} {table : List ℕ} {count : ℕ} {work : List ℕ} {limit : ℕ} {v : Values} {t w : List ℕ} → TableOf n table count (program-of one-goal) → count ≤ holds-nodes work → 3 ≤ limit → RunsWith n table count work limit v t w →
+pub counts-must-be-right : {n : ℕ} {table : Sheet} {count : ℕ} {work : Sheet} {limit : ℕ} {v : Values} {t w : Sheet} → Held n table count (program-of one-goal) → count ≤ holds work → 3 ≤ limit → RunsWith n table count work limit v t w →
     v .values ≡ 1 ∷ 3 ∷ 3 ∷ 0 ∷ 0 ∷ 1 ∷ 1 ∷ 1 ∷ 0 ∷ []
 unfolding nodes program-of closures
 counts-must-be-right {n} {table} {work = work} {limit} h l k r =
-    ap (λ (v : Values). v .values) (runs-to one-goal h (held-good one-goal h (omega arith) (tt, tt)) l (one-goal-run (room-of n table work) limit (omega (arith, h .counts, h .small, h .within)) k) r .0)
+    ap (λ (v : Values). v .values) (runs-to one-goal h (held-good one-goal h (omega arith) (tt, tt)) l (one-goal-run (room-of n table work) limit (omega (arith, h .table-of .counts, h .table-of .small, h .table-of .within, h .column-of .long)) k) r .0)

@@ -13,6 +13,7 @@ use Rattle.calculus.specs.Value.{value}
 use Rattle.calculus.specs.Whole.{whole}
 use Rattle.calculus.specs.Step.{finished, standing}
 use Rattle.calculus.specs.Choice.{Quiet}
+use Rattle.calculus.specs.Sheets.{Sheet}
 use Rattle.calculus.specs.Run.{End, size, run, room-of, finished-head}
 use Rattle.calculus.specs.Answers.{standingCode, Values}
 use Rattle.calculus.specs.Calls.{Accepts, TableOf, end-table, RunsWith, thread-refusals, ThreadOf, StandsAt, stands, not-stood}
@@ -22,7 +23,7 @@ use Rattle.calculus.proofs.Answers.{number-positive}
 use Rattle.calculus.proofs.Refusals.{accepted-not-refused}
 use Rattle.calculus.proofs.Outcomes.{table-of-unique}
 use Rattle.calculus.proofs.Runs.{program-run-only, finished-head-is, Movable, finished-head-quiet, demand-three}
-use Rattle.promises.specs.Worked.{HasRun}
+use Rattle.promises.specs.Worked.{Held, HasRun}
 use Rattle.promises.specs.Heads.{size-told, Run, Further, DemandThreeTables, DemandThreeEnd, SaysFinished}
 use Rattle.promises.proofs.Admitted.{good-table}
 use Rattle.promises.proofs.Worked.{run-gives}
@@ -41,9 +42,9 @@ begins (t ∷ ts) (alt u p) r h =
     go e i = (i .0, (cc (e, i .1)))
 
 -- the numbers of a head of threads, in a table that a run left with others behind it
-head-front : (table : List ℕ) (ts us : List (Tree term)) → take (2 * (size ts - 1)) (end-table table (ts ++ us)) ≡ head-numbers ts
+head-front : (table : Sheet) (ts us : List (Tree term)) → take (2 * (size ts - 1)) (end-table table (ts ++ us) .numbers) ≡ head-numbers ts
 head-front table ts us =
-    let zeros : List ℕ = replicate (length table - length (preorder (program-of (ts ++ us)))) 0 in
+    let zeros : List ℕ = replicate (length (table .numbers) - length (preorder (program-of (ts ++ us)))) 0 in
     ap (λ (l : List ℕ). take (2 * (size ts - 1)) (l ++ zeros)) (preorder-append ts us) ∙
     rw append-assoc (take-at (head-numbers ts) (preorder (program-of us) ++ zeros) (2 * (size ts - 1)) (omega (arith, head-numbers-length ts)))
 
@@ -60,27 +61,27 @@ head-there {table = table} {count} {p} h =
     let c : size (threads p) ≡ nodes p = ap nodes (program-of-threads p) in
     sym (take-take (2 * (count - 1)) (2 * count) table (omega arith)) ∙ ap (take (2 * (count - 1))) (h .is ∙ e) ∙ take-at (head-numbers (threads p)) (0 ∷ 0 ∷ []) (2 * (count - 1)) (omega (arith, head-numbers-length (threads p), h .counts))
 
-module _ {n : ℕ} {table : List ℕ} {count : ℕ} {work : List ℕ} {limit : ℕ} {v : Values} {t w : List ℕ} where
+module _ {n : ℕ} {table : Sheet} {count : ℕ} {work : Sheet} {limit : ℕ} {v : Values} {t w : Sheet} where
   -- an accepted run's end is that of the run of the threads in the table
-  pub end-is : (h : HasRun n table count work limit v t w) (p : List (Tree term)) → TableOf n table count (program-of p) → h .end .last ≡ run (room-of n table work) limit p .last
+  pub end-is : (h : HasRun n table count work limit v t w) (p : List (Tree term)) → TableOf n (table .numbers) count (program-of p) → h .end .last ≡ run (room-of n table work) limit p .last
   end-is h p f =
-      ap (λ (e : End (List (Tree term))). e .last) (program-run-only (h .is-run)) ∙ ap (λ (ts : List (Tree term)). run (room-of n table work) limit ts .last) (ap threads (table-of-unique (h .table-of) f) ∙ threads-of-program p)
+      ap (λ (e : End (List (Tree term))). e .last) (program-run-only (h .is-run)) ∙ ap (λ (ts : List (Tree term)). run (room-of n table work) limit ts .last) (ap threads (table-of-unique (h .there .table-of) f) ∙ threads-of-program p)
 
-  -- the table that it left holds that end, with the count that it tells
-  pub end-there : (h : HasRun n table count work limit v t w) → TableOf n t (size-told v) (program-of (h .end .last))
+  -- the table that it left holds that end, with the count that it tells, and its column
+  pub end-there : (h : HasRun n table count work limit v t w) → Held n t (size-told v) (program-of (h .end .last))
   end-there h = rw (ap size-told (h .values)) (h .back)
 
   -- and nothing else
-  end-stands : (h : HasRun n table count work limit v t w) (e : Tree program) → TableOf n t (size-told v) e → e ≡ program-of (h .end .last)
-  end-stands h e g = table-of-unique g (end-there h)
+  end-stands : (h : HasRun n table count work limit v t w) (e : Tree program) → TableOf n (t .numbers) (size-told v) e → e ≡ program-of (h .end .last)
+  end-stands h e g = table-of-unique g (end-there h .table-of)
 
-module _ {n : ℕ} {table table′ : List ℕ} {count count′ : ℕ} {work work′ : List ℕ} {k k′ : ℕ} {v v′ : Values} {t t′ w w′ : List ℕ} where
+module _ {n : ℕ} {table table′ : Sheet} {count count′ : ℕ} {work work′ : Sheet} {k k′ : ℕ} {v v′ : Values} {t t′ w w′ : Sheet} where
   -- Demand 3 over two runs, the second with further alternatives behind: the numbers of the first end's finished head begin what the second leaves
-  pub demand-three-calls : (p q : List (Tree term)) → TableOf n table count (program-of p) → TableOf n table′ count′ (program-of (p ++ q)) →
+  pub demand-three-calls : (p q : List (Tree term)) → TableOf n (table .numbers) count (program-of p) → TableOf n (table′ .numbers) count′ (program-of (p ++ q)) →
       RunsWith n table count work k v t w → v .refusal ≡ 0 → RunsWith n table′ count′ work′ k′ v′ t′ w′ → v′ .refusal ≡ 0 →
       k ≤ k′ → room-of n table work + (size q - 1) ≤ room-of n table′ work′ →
-      (e : Tree program) → TableOf n t (size-told v) e →
-      let m = 2 * (size (finished-head (threads e)) - 1) in take m t′ ≡ take m t
+      (e : Tree program) → TableOf n (t .numbers) (size-told v) e →
+      let m = 2 * (size (finished-head (threads e)) - 1) in take m (t′ .numbers) ≡ take m (t .numbers)
   demand-three-calls p q f f′ r z r′ z′ l c e g =
       let h = run-gives r z in
       let h′ = run-gives r′ z′ in
@@ -91,29 +92,30 @@ module _ {n : ℕ} {table table′ : List ℕ} {count count′ : ℕ} {work work
       let b : t ≡ end-table table (finished-head E ++ more) = h .left ∙ ap (end-table table) j in
       let b′ : t′ ≡ end-table table′ (finished-head E ++ rest) = h′ .left ∙ ap (end-table table′) (end-is h′ (p ++ q) f′ ∙ i ∙ ap (λ (ts : List (Tree term)). finished-head ts ++ rest) (sym (end-is h p f))) in
       let m = 2 * (size (finished-head E) - 1) in
-      rw d (ap (take m) b′ ∙ head-front table′ (finished-head E) rest ∙ sym (ap (take m) b ∙ head-front table (finished-head E) more))
+      rw d (ap (λ (s : Sheet). take m (s .numbers)) b′ ∙ head-front table′ (finished-head E) rest ∙ sym (ap (λ (s : Sheet). take m (s .numbers)) b ∙ head-front table (finished-head E) more))
 
 -- the threads in the first table, those in the second, which has others behind them, and the rooms
 pub record Behind (n : ℕ) (a b : Run n) : Type 0 where
   pub these : List (Tree term)
   pub others : List (Tree term)
-  pub first : TableOf n (a .table) (a .count) (program-of these)
-  pub second : TableOf n (b .table) (b .count) (program-of (these ++ others))
+  pub first : TableOf n (a .table .numbers) (a .count) (program-of these)
+  pub second : TableOf n (b .table .numbers) (b .count) (program-of (these ++ others))
   pub room : room-of n (a .table) (a .work) + (size others - 1) ≤ room-of n (b .table) (b .work)
 
 -- where the first table but for its last node begins the second, these are there
 pub behind-there : (n : ℕ) (a b : Run n) → Further n a b → Behind n a b
 behind-there n a b f =
-    let h = run-gives (a .runs) (a .accepted) .table-of in
-    let h′ = run-gives (b .runs) (b .accepted) .table-of in
+    let h = run-gives (a .runs) (a .accepted) .there .table-of in
+    let h′ = run-gives (b .runs) (b .accepted) .there .table-of in
     let p = threads (run-gives (a .runs) (a .accepted) .program) in
     let q = run-gives (b .runs) (b .accepted) .program in
     let m = 2 * (a .count - 1) in
-    let i : take m (preorder q) ≡ head-numbers p = ap (take m) (sym (h′ .is)) ∙ take-take m (2 * b .count) (b .table) (omega (arith, f .nodes)) ∙ f .begins ∙ head-there h in
+    let i : take m (preorder q) ≡ head-numbers p = ap (take m) (sym (h′ .is)) ∙ take-take m (2 * b .count) (b .table .numbers) (omega (arith, f .nodes)) ∙ f .begins ∙ head-there h in
     let (us, j) = begins p q (drop m (preorder q)) (sym (take-append-drop m (preorder q)) ∙ ap (λ (x : List ℕ). x ++ drop m (preorder q)) i) in
-    let k : TableOf n (a .table) (a .count) (program-of p) = rw program-of-threads h in
-    let k′ : TableOf n (b .table) (b .count) (program-of (p ++ us)) = rw j at h′ in
-    record { these = p; others = us; first = k; second = k′; room = omega (arith, f .room, k .counts, k′ .counts, size-append p us, nodes-positive (program-of us)) }
+    let k : TableOf n (a .table .numbers) (a .count) (program-of p) = rw program-of-threads h in
+    let k′ : TableOf n (b .table .numbers) (b .count) (program-of (p ++ us)) = rw j at h′ in
+    let more : size us - 1 ≡ b .count - a .count = omega (arith, k .counts, k′ .counts, size-append p us, nodes-positive (program-of us)) in
+    record { these = p; others = us; first = k; second = k′; room = rw more (f .room) }
 
 -- Demand 3 on the numbers alone: where the first table but for its last node begins the second, the finished head that the first run leaves begins what the second leaves
 pub demand-three-tables : DemandThreeTables
@@ -123,7 +125,7 @@ demand-three-tables n a b f e g =
 
 -- so of the end that the first run is defined to have
 pub demand-three-end : DemandThreeEnd
-demand-three-end n a b f h = rw threads-of-program at (demand-three-tables n a b f (program-of (h .end .last)) (end-there h))
+demand-three-end n a b f h = rw threads-of-program at (demand-three-tables n a b f (program-of (h .end .last)) (end-there h .table-of))
 
 -- the finished head is no longer than the threads
 head-shorter : (ts : List (Tree term)) → length (finished-head ts) ≤ length ts
@@ -167,29 +169,32 @@ finished-code t h = (refl, go (whole t) refl (value t) refl)
     go false w false v = inr (inr (rw (h, w, v, standing)))
 
 -- the standing call accepts every thread of a good program
-pub stands-accepted : {n : ℕ} {table : List ℕ} {count : ℕ} {p : Tree program} (k : ℕ) → TableOf n table count p → Good n p → k < length (threads p) → Accepts (thread-refusals n table count k)
+pub stands-accepted : {n : ℕ} {table : Sheet} {count : ℕ} {p : Tree program} (k : ℕ) → Held n table count p → Good n p → k < length (threads p) → Accepts (thread-refusals n table count k)
 stands-accepted k h g l =
     let a = good-table h g in
-    (a .0, (a .1 .0, (a .1 .1 .0, ((λ f. omega (arith, f .1 .1, ap (λ (q : Tree program). length (threads q)) (table-of-unique (f .1 .0) h))), tt))))
+    (a .0, (a .1 .0, (a .1 .1 .0, (a .1 .1 .1 .0, ((λ f. omega (arith, f .1 .1, ap (λ (q : Tree program). length (threads q)) (table-of-unique (f .1 .0) (h .table-of)))), tt)))))
 
 -- the threads of the program there, around the thread that was asked for
 pub threads-there : {n : ℕ} {table : List ℕ} {count k : ℕ} {u : Tree term} (e : Tree program) → TableOf n table count e → (o : ThreadOf n table count k u) → threads e ≡ o .before ++ (u ∷ o .after)
 threads-there {u = u} e g o = ap threads (table-of-unique g (o .table-of)) ∙ threads-of-program (o .before ++ (u ∷ o .after))
 
-module _ {n : ℕ} {table : List ℕ} {count : ℕ} {work : List ℕ} {limit : ℕ} {v : Values} {t w : List ℕ} where
+module _ {n : ℕ} {table : Sheet} {count : ℕ} {work : Sheet} {limit : ℕ} {v : Values} {t w : Sheet} where
   -- no rule of document 003 rewrites a thread of the finished head that a run leaves, and some rule rewrites the thread behind it, if there is one
-  pub head-quiet : RunsWith n table count work limit v t w → v .refusal ≡ 0 → (e : Tree program) → TableOf n t (size-told v) e →
+  pub head-quiet : RunsWith n table count work limit v t w → v .refusal ≡ 0 → (e : Tree program) → TableOf n (t .numbers) (size-told v) e →
       All Quiet (finished-head (threads e)) × ((rest : List (Tree term)) × ((threads e ≡ finished-head (threads e) ++ rest) × Movable rest))
   head-quiet r z e g = finished-head-quiet (threads e) (rw (end-stands (run-gives r z) e g) (run-gives r z .result-good .coherent))
 
   -- of each thread of the finished head that a run leaves, the standing call on what it left says answer, partial or stuck
-  pub finished-as-told : RunsWith n table count work limit v t w → v .refusal ≡ 0 → (e : Tree program) → TableOf n t (size-told v) e →
+  pub finished-as-told : RunsWith n table count work limit v t w → v .refusal ≡ 0 → (e : Tree program) → TableOf n (t .numbers) (size-told v) e →
       {k : ℕ} {s : Values} → k < length (finished-head (threads e)) → StandsAt n t (size-told v) k s → SaysFinished s
   finished-as-told r z e g {k} l (stands u a o) = finished-code u (head-finished (o .before) u (o .after) (omega (arith, o .place, ap (λ (ts : List (Tree term)). length (finished-head ts)) (threads-there e g o))))
-  finished-as-told r z e g {k} l (not-stood q i) = absurd (accepted-not-refused (thread-refusals n t (size-told v) k) q (stands-accepted k g (rw (end-stands (run-gives r z) e g) (run-gives r z .result-good)) (omega (arith, head-shorter (threads e)))) i)
+  finished-as-told r z e g {k} l (not-stood q i) =
+      let h = run-gives r z in
+      let held : Held n t (size-told v) e = rw (end-stands h e g) (end-there h) in
+      absurd (accepted-not-refused (thread-refusals n t (size-told v) k) q (stands-accepted k held (rw (end-stands h e g) (h .result-good)) (omega (arith, head-shorter (threads e)))) i)
 
 -- and of the thread behind it, if there is one, open: so the numbers alone tell where the finished head ends
-pub open-as-told : {n : ℕ} {t : List ℕ} {count : ℕ} (e : Tree program) → TableOf n t count e → {k : ℕ} {s : Values} → k ≡ length (finished-head (threads e)) → StandsAt n t count k s → s .refusal ≡ 0 → s .values ≡ 3 ∷ []
+pub open-as-told : {n : ℕ} {t : Sheet} {count : ℕ} (e : Tree program) → TableOf n (t .numbers) count e → {k : ℕ} {s : Values} → k ≡ length (finished-head (threads e)) → StandsAt n t count k s → s .refusal ≡ 0 → s .values ≡ 3 ∷ []
 unfolding standing
 open-as-told e g l (stands u a o) z = rw (head-open (o .before) u (o .after) (omega (arith, o .place, ap (λ (ts : List (Tree term)). length (finished-head ts)) (threads-there e g o))), standing)
 open-as-told e g l (not-stood q i) z = absurd (omega (arith, number-positive q))

@@ -2,10 +2,12 @@ pub mod Admitted
 pub mod Refused
 pub mod Determined
 pub mod Worked
+pub mod Again
 pub mod Whole
 pub mod RoundTrip
 pub mod Heads
 pub mod Rules
+pub mod AsBase
 pub mod Excluded
 pub mod Starred
 pub mod Boundaries

@@ -2,28 +2,31 @@
 use mathlib.Core.Path.{_≡_, refl, sym, ap, _∙_}
 use mathlib.Core.List.{List, [], _∷_, _++_, map}
 use mathlib.Core.Option.{none}
-use Prim.Native.Nat.{ℕ, _*_, _-_, _≤_, _<_}
+use Prim.Native.Nat.{ℕ, _≤_, _<_}
 use native.Mathlib.Omega.{arith}
-use lib.ListN.{length, getD, replicate}
+use lib.ListN.{length, getD}
 use Rattle.calculus.specs.declared.Reason.the-variants.{Ended}
 use Rattle.calculus.specs.declared.Standing.{Standing}
 use Rattle.calculus.specs.Tree.{term, Tree, preorder, nodes, program-of}
 use Rattle.calculus.specs.Good.{InRange, Closed, All, Good}
 use Rattle.calculus.specs.Step.{step, standing}
+use Rattle.calculus.specs.Sheets.{Sheet, sheet, holds}
 use Rattle.calculus.specs.Run.{End, size, run, room-of}
 use Rattle.calculus.specs.Tally.{run-counts}
 use Rattle.calculus.specs.Text.{text}
+use Rattle.calculus.specs.Column.{column}
 use Rattle.calculus.specs.Answers.{reasonCode, standingCode, Values, six}
-use Rattle.calculus.specs.Calls.{front, Reads, TableOf, Writes, StepsInto, end-table, RunsWith, thread-refusals, StandsAt, stands, not-stood}
+use Rattle.calculus.specs.Calls.{front, Reads, Writes, StepsInto, end-table, RunsWith, thread-refusals, StandsAt, stands, not-stood}
 use Rattle.calculus.specs.Known.{Known, Outcome, ascii, found, expected, AllRight, starred}
 use Rattle.calculus.proofs.Preorders.{threads-of-program}
 use Rattle.calculus.proofs.Refusals.{accepted-not-refused}
 use Rattle.calculus.proofs.Preservation.{run-good}
 use Rattle.calculus.proofs.Ends.{starred-right}
 use Rattle.mespindro.specs.Limit.{limit}
+use Rattle.promises.specs.Worked.{Held}
 use Rattle.promises.specs.Calls.{RightCall, Each}
 use Rattle.promises.proofs.Admitted.{good-read-only, good-written-only}
-use Rattle.promises.proofs.Worked.{front-table, good-stopped, good-runs}
+use Rattle.promises.proofs.Worked.{end-held, good-stopped, good-runs}
 use Rattle.promises.proofs.Heads.{stands-accepted, threads-there}
 use Rattle.promises.proofs.Excluded.{closures, OneAtMost, one-good}
 
@@ -75,33 +78,34 @@ module _ (k : Known) (e : found k ≡ expected k) (g : Good limit (program-of (k
   end-good : Good limit (program-of (k .end))
   end-good = rw is-end at (run-good limit 2048 10000 (k .program) g (omega arith))
 
-  reads-right : (out : List ℕ) (v : Values) (o : List ℕ) → length out ≡ 2 * limit → Reads limit (ascii (k .written)) out v o → (v ≡ record { refusal = 0; values = size (k .program) ∷ [] }) × (o ≡ front (k .table) out)
+  reads-right : (out : Sheet) (v : Values) (o : Sheet) → limit ≤ holds out → Reads limit (ascii (k .written)) out v o →
+      (v ≡ record { refusal = 0; values = size (k .program) ∷ [] }) × (o ≡ sheet (front (k .table) (out .numbers)) (front (column (program-of (k .program))) (out .sizes)))
   reads-right out v o l r =
       let z = good-read-only g (omega arith) (omega (arith, g .small)) (rw (← is-text) at r) in
-      (z .0, z .1 ∙ ap (λ (t : List ℕ). front t out) is-table)
+      (z .0, z .1 ∙ ap (λ (t : List ℕ). sheet (front t (out .numbers)) (front (column (program-of (k .program))) (out .sizes))) is-table)
 
-  writes-right : (table out : List ℕ) (v : Values) (o : List ℕ) → length (ascii (k .written)) ≤ length out → TableOf limit table (size (k .program)) (program-of (k .program)) → Writes limit table (size (k .program)) out v o →
+  writes-right : (table : Sheet) (out : List ℕ) (v : Values) (o : List ℕ) → length (ascii (k .written)) ≤ length out → Held limit table (size (k .program)) (program-of (k .program)) → Writes limit table (size (k .program)) out v o →
       (v ≡ record { refusal = 0; values = length (ascii (k .written)) ∷ [] }) × (o ≡ front (ascii (k .written)) out)
   writes-right table out v o l h r = rw is-text at (good-written-only g h (rw is-text l) r)
 
-  runs-right : (table work : List ℕ) (v : Values) (t w : List ℕ) → length table ≡ 2 * limit → length work ≡ 2 * limit → TableOf limit table (size (k .program)) (program-of (k .program)) →
+  runs-right : (table work : Sheet) (v : Values) (t w : Sheet) → limit ≤ holds table → limit ≤ holds work → Held limit table (size (k .program)) (program-of (k .program)) →
       RunsWith limit table (size (k .program)) work 10000 v t w →
-      (v ≡ record { refusal = 0; values = reasonCode Ended ∷ size (k .end) ∷ k .steps ∷ k .counts }) × (t ≡ end-table table (k .end)) × TableOf limit t (size (k .end)) (program-of (k .end))
+      (v ≡ record { refusal = 0; values = reasonCode Ended ∷ size (k .end) ∷ k .steps ∷ k .counts }) × (t ≡ end-table table (k .end)) × Held limit t (size (k .end)) (program-of (k .end))
   runs-right table work v t w l m h r =
       let a : room-of limit table work ≡ 2048 = omega arith in
       let z = rw (a, threads-of-program (k .program), is-run, is-counts) at (good-runs h g (omega (arith, g .small)) r) in
-      (z .0, z .1, rw (z .1) (front-table (replicate (length table - length (preorder (program-of (k .end)))) 0) end-good))
+      (z .0, z .1, rw (z .1) (end-held table (k .end) end-good))
 
-  single-right : (table out : List ℕ) (v : Values) (o : List ℕ) → TableOf limit table (size (k .end)) (program-of (k .end)) → StepsInto limit table (size (k .end)) out v o → (v .refusal ≡ 11) × (o ≡ out)
+  single-right : (table out : Sheet) (v : Values) (o : Sheet) → Held limit table (size (k .end)) (program-of (k .end)) → StepsInto limit table (size (k .end)) out v o → (v .refusal ≡ 11) × (o ≡ out)
   single-right table out v o h r =
       let z = good-stopped h end-good (ap step (threads-of-program (k .end)) ∙ end-single) r in
       (ap (λ (x : Values). x .refusal) (z .0), z .1)
 
-  stands-right : (table : List ℕ) (j : ℕ) {v : Values} → j < length (k .end) → TableOf limit table (size (k .end)) (program-of (k .end)) → StandsAt limit table (size (k .end)) j v →
+  stands-right : (table : Sheet) (j : ℕ) {v : Values} → j < length (k .end) → Held limit table (size (k .end)) (program-of (k .end)) → StandsAt limit table (size (k .end)) j v →
       v ≡ record { refusal = 0; values = getD (map standingCode (k .standings)) j 0 ∷ [] }
   stands-right table j l h (stands t a o) =
       let c : getD (map standingCode (map standing (k .end))) j 0 ≡ standingCode (standing t) =
-      ap (λ (ts : List (Tree term)). getD (map standingCode (map standing ts)) j 0) (sym (threads-of-program (k .end)) ∙ threads-there (program-of (k .end)) h o) ∙
+      ap (λ (ts : List (Tree term)). getD (map standingCode (map standing ts)) j 0) (sym (threads-of-program (k .end)) ∙ threads-there (program-of (k .end)) (h .table-of) o) ∙
       ap (λ (i : ℕ). getD (map standingCode (map standing (o .before ++ (t ∷ o .after)))) i 0) (sym (o .place)) ∙
       code-there (o .before) t (o .after) in
       ap (λ (m : ℕ). record { refusal = 0; values = m ∷ [] }) (sym c ∙ ap (λ (ss : List Standing). getD (map standingCode ss) j 0) end-standings)

@@ -37,5 +37,5 @@ holding-nodes t = (
 
 -- an answer is told by the kinds of its nodes
 pub answer-by-kinds : AnswerByKinds
-answer-by-kinds n table count k v start l (stands t a o) z f p = rw (parts-once p (part t a o) .1) (Iff·trans (told-finished t a o f) (holding-nodes t))
+answer-by-kinds n table count k v start l (stands t a o) z f p = rw (parts-once p (part t a o) .1) (Iff·trans (told-finished {table = table} t a o f) (holding-nodes t))
 answer-by-kinds n table count k v start l (not-stood r g) z f p = absurd (omega (arith, number-positive r))

@@ -1,5 +1,6 @@
 -- Demand 1: a call's refusal number against its ordered list of (refusal, condition): given exactly when.
 use mathlib.Core.Path.{_≡_}
+use mathlib.Core.Logic.{_⊎_}
 use Prim.Native.Nat.{ℕ, _≤_}
 use Rattle.calculus.specs.declared.Refusal.{Refusal}
 use Rattle.calculus.specs.Answers.{number}
@@ -12,5 +13,13 @@ pub record Exactly (cs : Refusals) (refusal : ℕ) : Type 0 where
   -- accepted exactly if none holds
   pub accepted : Accepts cs → refusal ≡ 0
   pub accepted-only : refusal ≡ 0 → Accepts cs
-  -- where several apply, the lowest number is given
+
+-- of a read: where several apply, the lowest number is given
+pub record Lowest (cs : Refusals) (refusal : ℕ) : Type 0 where
   pub lowest : (m : ℕ) → Applies cs m → (1 ≤ refusal) × (refusal ≤ m)
+
+-- of a call on a table: so too, but for 14, which goes before all but 1
+pub record LowestBut (cs : Refusals) (refusal : ℕ) : Type 0 where
+  pub one : Applies cs 1 → refusal ≡ 1
+  pub fourteen : Applies cs 14 → (refusal ≡ 1) ⊎ (refusal ≡ 14)
+  pub lowest : (m : ℕ) → Applies cs m → (1 ≤ refusal) × ((refusal ≡ 14) ⊎ (refusal ≤ m))

@@ -1,10 +1,10 @@
 -- Request 2 over the calls, on numbers alone: what a run's six counts and a step's thread are, from one call to another.
 use mathlib.Core.Path.{_≡_}
-use mathlib.Core.List.{List}
 use Prim.Native.Nat.{ℕ, _+_, _≤_}
 use lib.ListN.{getD}
 use Rattle.calculus.specs.declared.Rule.{Rule}
 use Rattle.calculus.specs.declared.Rule.the-variants.{Alloc, Beta, Fresh, Guard, Unif, Fail}
+use Rattle.calculus.specs.Sheets.{Sheet}
 use Rattle.calculus.specs.Run.{room-of}
 use Rattle.calculus.specs.Answers.{ruleCode, Values}
 use Rattle.calculus.specs.Calls.{StepsInto}
@@ -28,7 +28,7 @@ SumTold = (n : ℕ) (a : Run n) → let v = a .told in count-told Alloc v + coun
 abbrev pub NoCountFalls : Type 0
 NoCountFalls = (n : ℕ) (a b : Run n) → Further n a b → (r : Rule) → count-told r (a .told) ≤ count-told r (b .told)
 
--- The run a stopped by steps, b goes on with what it left, in the same room; `whole` is the one run of as many steps, in the same room.
+-- The run a stopped by steps, b goes on with what it left, the column too, in the same room; `whole` is the one run of as many steps, in the same room.
 pub record GoneOn (n : ℕ) (a b whole : Run n) : Type 0 where
   pub by-steps : reason-told (a .told) ≡ 2
   pub table : b .table ≡ a .left
@@ -52,11 +52,11 @@ CountsAddUp = (n : ℕ) (a b whole : Run n) → GoneOn n a b whole → AddsUp n 
 
 -- An accepted step with the node limit n: what was lent, what it told, what it left in the output.
 pub record Single (n : ℕ) : Type 0 where
-  pub table : List ℕ
+  pub table : Sheet
   pub count : ℕ
-  pub out : List ℕ
+  pub out : Sheet
   pub told : Values
-  pub left : List ℕ
+  pub left : Sheet
   pub steps : StepsInto n table count out told left
   pub accepted : told .refusal ≡ 0
 
@@ -76,4 +76,4 @@ RuleTold = (n : ℕ) (a : Single n) → (1 ≤ rule-told (a .told)) × (rule-tol
 
 -- from one single step to the next the thread told never falls
 abbrev pub ThreadNeverFalls : Type 0
-ThreadNeverFalls = (n : ℕ) (a b : Single n) → b .table ≡ a .left → b .count ≡ nodes-told (a .told) → thread-told (a .told) ≤ thread-told (b .told)
+ThreadNeverFalls = (n : ℕ) (a b : Single n) → b .table .numbers ≡ a .left .numbers → b .count ≡ nodes-told (a .told) → thread-told (a .told) ≤ thread-told (b .told)

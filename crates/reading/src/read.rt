@@ -2,11 +2,14 @@
 ghost use Prim.Native.Nat.{_+_, _*_, _≤_, _<_};
 ghost use lib.ListN.{length};
 ghost use Rattle.calculus.specs.Answers.{countedValues};
+ghost use Rattle.calculus.specs.Sheets.{sheet};
 ghost use Rattle.calculus.specs.Calls.{Reads};
 use crate::Parsed;
 use crate::parse::parse;
 use calculus::Counted;
 use calculus::Refusal;
+use column::renew::count_column;
+use column::room::holds;
 use csexp::is_one;
 use table::Checked;
 use table::check::check;
@@ -15,11 +18,12 @@ use table::copy::copy_nodes;
 // The text of a program has at most so many bytes for each of its nodes.
 const BYTES_PER_NODE: usize = 12;
 
-// Reads a text into a table. The build table, the scratch and the goals are lent; the limit is the node limit.
+// Reads a text into a table and its column. The build table, the scratch and the goals are lent; the limit is the node limit.
 // It builds apart from the output, into which nothing may be written before the last refusal is decided.
 pub fn read(
     text: &[u8],
     out: &mut [u16],
+    column: &mut [u16],
     limit: usize,
     build: &mut [u16],
     scratch: &mut [u16],
@@ -29,7 +33,7 @@ pub fn read(
     requires { ⌜ 2 * limit ≤ length (now build) ⌝ }
     requires { ⌜ limit + 2 ≤ length (now scratch) ⌝ }
     requires { ⌜ 12 * limit + 2 ≤ length (now goals) ⌝ }
-    ensures { λ r. ⌜ Reads limit (now (text .entry)) (now (out .entry)) (countedValues r) (now (out .exit)) ⌝ }
+    ensures { λ r. ⌜ Reads limit (now (text .entry)) (sheet (now (out .entry)) (now (column .entry))) (countedValues r) (sheet (now (out .exit)) (now (column .exit))) ⌝ }
 {
     if BYTES_PER_NODE * limit < text.len() {
         return Counted::Refused(Refusal::TooLong);
@@ -49,9 +53,10 @@ pub fn read(
     let Checked::Admitted = check(build, nodes, limit, scratch) else {
         return Counted::Refused(Refusal::Incoherent);
     };
-    if out.len() / 2 < nodes {
+    if holds(out.len(), column.len()) < nodes {
         return Counted::Refused(Refusal::NoRoom);
     }
     copy_nodes(build, 0, nodes, out, 0);
+    count_column(&build[..2 * nodes], column);
     Counted::Count(nodes)
 }

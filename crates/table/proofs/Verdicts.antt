@@ -1,45 +1,28 @@
--- What the checks of a table show together, and which part the thread call hands back.
+-- What the checks of a table show together.
 use mathlib.Core.Path.{_≡_, refl, sym, ap, _∙_}
 use mathlib.Core.Logic.{inl, inr}
 use mathlib.Core.Bool.{Bool, true, false}
 use mathlib.Core.List.{List, [], _∷_, _++_}
 use Prim.Native.Nat.{ℕ, _+_, _*_, _-_, _≤_, _<_}
 use native.Mathlib.Omega.{arith}
-use lib.ListN.{length, take, drop, take-append-drop, length-append}
+use lib.ListN.{drop, take-append-drop}
 use Rattle.calculus.specs.declared.Refusal.{Refusal}
 use Rattle.calculus.specs.declared.Refusal.the-variants as refusal
-use Rattle.calculus.specs.Tree.{term, program, Tree, nodes, threads, program-of}
+use Rattle.calculus.specs.Tree.{program, Tree, threads}
 use Rattle.calculus.specs.Good.{Closed, Coherent, All, Good}
-use Rattle.calculus.specs.Answers.{number, Values}
-use Rattle.calculus.specs.Calls.{Refusals, Accepts, Refuses, TableOf, nodes-before, table-refusals, thread-refusals, ThreadOf, PartAt, part, no-part}
+use Rattle.calculus.specs.Answers.{number}
+use Rattle.calculus.specs.Calls.{Refusals, Accepts, Refuses, TableOf, plain-refusals}
+use Rattle.calculus.proofs.Answers.{number-positive}
 use Rattle.calculus.proofs.Alls.{all-each, all-with}
 use Rattle.calculus.proofs.Outcomes.{table-of-unique}
-use Rattle.calculus.proofs.Preorders.{nodes-positive, threads-of-program}
-use Rattle.table.specs.Nodes.{Stands, SomeTree, Ends}
+use Rattle.calculus.proofs.Preorders.{nodes-positive}
+use Rattle.table.specs.Nodes.{Stands}
 use Rattle.table.specs.Checks.{walkedNumber, Walks, nothing, loose, scoped, OneBody, ProgramIn, ThreadsAgree, in-force, checkedNumber, Checks, admitted, refused}
-use Rattle.table.specs.Threads.{ProgramAt, placeValues, PlaceOf, from, missing, SpanOf}
 use Rattle.table.specs.declared.Walked.{Walked}
 use Rattle.table.specs.declared.Walked.the-variants.{NoProgram, Loose, Scoped}
 use Rattle.table.specs.declared.Checked.{Checked}
 use Rattle.table.specs.declared.Checked.the-variants.{Admitted, Refused}
-use Rattle.table.specs.declared.Place.{Place}
-use Rattle.table.specs.declared.Place.the-variants.{From, Missing}
-use Rattle.table.proofs.Trees.{one-tree, see, moved, ends-in, own-part}
 use Rattle.table.proofs.Scopes.{Within, scoped-closed, closed-scoped, within-threads, threads-within}
-
--- every refusal has a number
-positive : (r : Refusal) → 0 < number r
-positive refusal.NoProgram = omega arith
-positive refusal.TooLong = omega arith
-positive refusal.NotCanonical = omega arith
-positive refusal.OutOfPlace = omega arith
-positive refusal.BadNumber = omega arith
-positive refusal.NoBinder = omega arith
-positive refusal.TooManyNodes = omega arith
-positive refusal.Incoherent = omega arith
-positive refusal.NoRoom = omega arith
-positive refusal.NoThread = omega arith
-positive refusal.Finished = omega arith
 
 -- with scratch enough the limit that the caller asks for is in force
 pub limit-in-force : (limit scratch : ℕ) → limit < 32767 → limit + 2 ≤ scratch → in-force limit scratch ≡ limit
@@ -160,38 +143,12 @@ module _ {n : ℕ} {t : List ℕ} {count : ℕ} (c : ClosedIn n t count) where
       let h = c .table-of in
       admitted this h (record { small = omega (arith, h .counts, h .small); ranges = h .ranges; closed = c .closed; coherent = k }) (there, (closed-all, (coherent-all k, tt)))
 
--- The part of a thread.
-
 -- an admitted program stands there
 pub record AdmittedIn (n : ℕ) (t : List ℕ) (count : ℕ) : Type 0 where
-  pub accepts : Accepts (table-refusals n t count)
+  pub accepts : Accepts (plain-refusals n t count)
   pub program-there : Tree program
   pub table-of : TableOf n t count program-there
   pub good : Good n program-there
-
--- the thread k stands from the node i to before the node e
-pub record PartIn (n : ℕ) (t : List ℕ) (count k i e : ℕ) : Type 0 where
-  pub order : i ≤ e
-  pub fits : 2 * e ≤ length t
-  pub span : SpanOf n t count k (2 * i) (2 * (e - i))
-
--- the last refusal of the thread calls
-abbrev no-thread : ℕ → List ℕ → ℕ → ℕ → Refusals
-no-thread n t count k = (refusal.NoThread, (p : Tree program) × (TableOf n t count p × (length (threads p) ≤ k))) ∷ []
-
--- the thread k stands at the node i
-pub record ThreadAt (n : ℕ) (t : List ℕ) (count k i : ℕ) : Type 0 where
-  pub thread : Tree term
-  pub accepts : Accepts (thread-refusals n t count k)
-  pub thread-of : ThreadOf n t count k thread
-  pub start : nodes-before (thread-of .before) ≡ i
-  pub there : Stands t i thread
-
--- a thread stands behind those before it
-behind-threads : {t : List ℕ} {x : Tree term} (before after : List (Tree term)) (i : ℕ) → Stands t i (program-of (before ++ (x ∷ after))) → Stands t (i + nodes-before before) x
-unfolding program-of nodes-before
-behind-threads [] after i h = see _ h .parts-stand .0
-behind-threads (y ∷ before) after i h = moved (omega arith) (behind-threads before after (i + 1 + nodes y) (see _ h .parts-stand .1))
 
 module _ {n : ℕ} {t : List ℕ} {count : ℕ} where
   -- the check admits: a good program stands there
@@ -200,77 +157,12 @@ module _ {n : ℕ} {t : List ℕ} {count : ℕ} where
     where
       go : {m : ℕ} → Checks n t count m → m ≡ 0 → AdmittedIn n t count
       go (admitted p h g a) e = record { accepts = a; program-there = p; table-of = h; good = g }
-      go (refused q g) e = absurd (omega (arith, positive q))
+      go (refused q g) e = absurd (omega (arith, number-positive q))
 
   -- the check refuses: the first condition that holds has the answer's number
-  pub refused-there : {r : Checked} {q : Refusal} → r ≡ Refused q → Checks n t count (checkedNumber r) → (s : Refusal) × ((number s ≡ number q) × Refuses (table-refusals n t count) s)
+  pub refused-there : {r : Checked} {q : Refusal} → r ≡ Refused q → Checks n t count (checkedNumber r) → (s : Refusal) × ((number s ≡ number q) × Refuses (plain-refusals n t count) s)
   refused-there {q} e h = go h (ap checkedNumber e)
     where
-      go : {m : ℕ} → Checks n t count m → m ≡ number q → (s : Refusal) × ((number s ≡ number q) × Refuses (table-refusals n t count) s)
-      go (admitted p h k a) e = absurd (omega (arith, positive q))
+      go : {m : ℕ} → Checks n t count m → m ≡ number q → (s : Refusal) × ((number s ≡ number q) × Refuses (plain-refusals n t count) s)
+      go (admitted p h k a) e = absurd (omega (arith, number-positive q))
       go (refused s g) e = (s, (e, g))
-
-  -- so do the thread calls
-  pub thread-refused : {r : Checked} {q : Refusal} (k : ℕ) → r ≡ Refused q → Checks n t count (checkedNumber r) → (s : Refusal) × ((number s ≡ number q) × Refuses (thread-refusals n t count k) s)
-  thread-refused k e h = let s = refused-there e h in (s .0, (s .1 .0, refuses-early (no-thread n t count k) (table-refusals n t count) (s .0) (s .1 .1)))
-
-  -- then there is no part
-  pub part-refused : {k : ℕ} {s : Refusal} → Refuses (thread-refusals n t count k) s → SpanOf n t count k 0 0
-  part-refused {s = s} h = record { holds = no-part s h; within = omega arith }
-
-module _ {n : ℕ} {t : List ℕ} {count : ℕ} (a : AdmittedIn n t count) where
-  -- it stands at the front
-  pub admitted-program : ProgramAt t
-  admitted-program = record { program-there = a .program-there; stands = table-stands (a .table-of) }
-
-  this-one : {p : Tree program} → Stands t 0 p → TableOf n t count p
-  this-one {p} h = rw (one-tree p (a .program-there) h (table-stands (a .table-of))) (a .table-of)
-
-  -- there are not so many threads
-  pub thread-missing : {k : ℕ} {r : Place} → r ≡ Missing → PlaceOf t k (placeValues r) → Refuses (thread-refusals n t count k) refusal.NoThread
-  thread-missing {k} e w = go w (ap (λ p. placeValues p .refusal) e)
-    where
-      go : {v : Values} → PlaceOf t k v → v .refusal ≡ 10 → Refuses (thread-refusals n t count k) refusal.NoThread
-      go (from before x after h l) e = absurd (omega arith)
-      go (missing p h l) e = refuses-late (no-thread n t count k) (table-refusals n t count) refusal.NoThread (a .accepts) (inl ((p, (this-one h, l)), refl))
-
-  there-at : {k i : ℕ} {v : Values} → PlaceOf t k v → v ≡ record { refusal = 0; values = i ∷ [] } → ThreadAt n t count k i
-  there-at {k} {i} (from before x after h l) q =
-      let both = ap (λ (v : Values). v .values) q in
-      let start : nodes-before before ≡ i = cc in
-      let o : ThreadOf n t count k x = record { before = before; after = after; table-of = this-one h; place = l } in
-      let enough : (p : Tree program) × (TableOf n t count p × (length (threads p) ≤ k)) → ⊥ =
-      λ m. omega (arith, m .1 .1, length-append before (x ∷ after), ap length (ap threads (table-of-unique (m .1 .0) (o .table-of)) ∙ threads-of-program (before ++ (x ∷ after)))) in
-      record {
-        thread = x;
-        accepts = accepts-both (no-thread n t count k) (table-refusals n t count) (a .accepts) (enough, tt);
-        thread-of = o;
-        start = start;
-        there = moved (omega arith) (behind-threads before after 0 h);
-      }
-  there-at (missing p h l) q = absurd (omega (arith, ap (λ (v : Values). v .refusal) q))
-
-  -- the thread is there
-  pub thread-there : {k i : ℕ} {r : Place} → r ≡ From i → PlaceOf t k (placeValues r) → ThreadAt n t count k i
-  thread-there q w = there-at w (ap placeValues q)
-
-module _ {n : ℕ} {t : List ℕ} {count k i : ℕ} (h : ThreadAt n t count k i) where
-  -- its end can be looked for
-  pub thread-tree : SomeTree t i
-  thread-tree = record { sort = term; tree = h .thread; stands = h .there }
-
-  -- its own nodes
-  pub part-there : {e : ℕ} → Ends t i e → PartIn n t count k i e
-  part-there {e} d =
-      let end : e ≡ i + nodes (h .thread) = d .ends (h .thread) (h .there) in
-      let m : 2 * (e - i) ≡ 2 * nodes (h .thread) = omega arith in
-      let b = ends-in (h .there) in
-      record {
-        order = omega arith;
-        fits = omega arith;
-        span = record { holds = rw (m, own-part (h .there), ← h .start) (part (h .thread) (h .accepts) (h .thread-of)); within = omega arith };
-      }
-
--- the part as it is lent, from its first number to before its last one's next
-pub span-part : {n : ℕ} {t : List ℕ} {count k start many : ℕ} → SpanOf n t count k start many → PartAt n t count k start (take (start + many - start) (drop start t))
-span-part {start = start} {many} h = let e : start + many - start ≡ many = omega arith in rw e (h .holds)

@@ -5,7 +5,7 @@ use mathlib.Core.List.{List}
 use Prim.Native.Nat.{ℕ, suc, _-_, _≤_, min}
 use Rattle.calculus.specs.Tree.{Sort, term, program, Head, code, at, Tree, empty, alt, bound, free, con, abs, fresh, two, preorder, nodes, threads}
 use Rattle.calculus.specs.Good.{InRange, Holds, All, Good}
-use Rattle.calculus.specs.Calls.{Accepts, Refuses, TableOf, table-refusals}
+use Rattle.calculus.specs.Calls.{Accepts, Refuses, TableOf, plain-refusals}
 use Rattle.calculus.specs.Answers.{number}
 use Rattle.calculus.specs.declared.Refusal.{Refusal}
 use Rattle.calculus.specs.declared.Refusal.the-variants as refusal
@@ -85,5 +85,5 @@ checkedNumber (Refused r) = number r
 
 -- the first of document 01's conditions 1, 6 and 8 that holds of a table and its count under the limit n; or a good program stands there, and none holds
 pub data Checks (n : ℕ) (t : List ℕ) (count : ℕ) : ℕ → Type 0 where
-  admitted : (p : Tree program) → TableOf n t count p → Good n p → Accepts (table-refusals n t count) → Checks n t count 0
-  refused : (r : Refusal) → Refuses (table-refusals n t count) r → Checks n t count (number r)
+  admitted : (p : Tree program) → TableOf n t count p → Good n p → Accepts (plain-refusals n t count) → Checks n t count 0
+  refused : (r : Refusal) → Refuses (plain-refusals n t count) r → Checks n t count (number r)

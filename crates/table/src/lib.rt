@@ -4,7 +4,6 @@ pub mod closures;
 pub mod copy;
 pub mod kinds;
 pub mod nodes;
-pub mod threads;
 pub mod walk;
 
 use calculus::Refusal;
@@ -20,16 +19,4 @@ pub enum Walked {
 pub enum Checked {
     Admitted,
     Refused(Refusal),
-}
-
-// Where a thread stands: its first node.
-pub enum Place {
-    From(usize),
-    Missing,
-}
-
-// A part of a table: its first number, and how many numbers.
-pub struct Span {
-    pub start: usize,
-    pub length: usize,
 }

@@ -2,10 +2,9 @@
 use mathlib.Core.Path.{_≡_, refl, sym, _∙_}
 use mathlib.Core.Bool.{Bool, true, false, _||_}
 use mathlib.Core.List.{List}
-use Prim.Native.Nat.{ℕ, _+_, _*_, _≤_, _<_}
+use Prim.Native.Nat.{ℕ, _+_, _*_, _≤_}
 use native.Mathlib.Omega.{arith}
-use lib.ListN.{length, set, length-set}
-use lib.Seq.{getD-set-same}
+use lib.ListN.{length}
 use borrow.Author.Tests.{eq-eqb}
 use Rattle.calculus.specs.Tree.{term, unif, Tree, free, two, nodes, preorder, uses}
 use Rattle.calculus.specs.Unifier.{Substitution, Solves}
@@ -15,7 +14,7 @@ use Rattle.table.specs.Nodes.{Stands, SomeTree, Ends}
 use Rattle.table.proofs.Trees.{see, ends-in, moved}
 use Rattle.unify.specs.Classes.{Goal, Lent}
 use Rattle.descent.specs.Descent.{identityOf, OfThread, variable, Respects, Joined}
-use Rattle.descent.specs.Meeting.{Threaded, LinksHold, EndsKept, Fresh, Within, Meant, Linked, Meets, Met, clashed}
+use Rattle.descent.specs.Meeting.{Threaded, LinksHold, Fresh, Within, Meant, Linked, Meets, Met, clashed}
 use Rattle.descent.proofs.Places.{identity-means, occurs}
 use Rattle.descent.proofs.Descents.{sane, class-solves, merged-of}
 
@@ -26,10 +25,6 @@ goal-threaded g = record { thread = g .thread; worked = g .worked }
 -- the lent links, set up
 pub lent-room : {n : ℕ} {before after sizes : List ℕ} → Lent n before sizes → length after ≡ length before → LinksHold n after
 lent-room l e = record { holds = rw e (l .links-hold); fits = l .numbers-fit }
-
--- where the cell 0 is cleared no end is known
-pub none-known : {n : ℕ} {t links sizes : List ℕ} → Lent n links sizes → 0 < length sizes → EndsKept n t (set sizes 0 0)
-none-known {sizes = sizes} l h = record { holds = simp length-set (l .sizes-hold); known = λ k. absurd (omega (arith, getD-set-same sizes 0 0 0 h)) }
 
 own-variable : {vs : ℕ → Bool} (x : ℕ) → Within vs (free x) → vs x ≡ true
 unfolding uses

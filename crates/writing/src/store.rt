@@ -2,21 +2,29 @@
 ghost use Prim.Native.Nat.{_+_, _≤_, _<_};
 ghost use lib.ListN.{length};
 ghost use Rattle.calculus.specs.Answers.{countedValues};
+ghost use Rattle.calculus.specs.Sheets.{sheet};
 ghost use Rattle.calculus.specs.Calls.{Writes};
 use crate::write::put_text;
 use crate::write::text_length;
 use calculus::Counted;
 use calculus::Refusal;
+use column::check::check_with;
 use table::Checked;
-use table::check::check;
 
-// Writes the text of the program in a table. The scratch is lent; the limit is the node limit.
-pub fn write(t: &[u16], count: usize, out: &mut [u8], limit: usize, scratch: &mut [u16]) -> Counted
+// Writes the text of the program in a table whose column is right. The scratch is lent; the limit is the node limit.
+pub fn write(
+    t: &[u16],
+    column: &[u16],
+    count: usize,
+    out: &mut [u8],
+    limit: usize,
+    scratch: &mut [u16],
+) -> Counted
     requires { ⌜ limit < 32767 ⌝ }
     requires { ⌜ limit + 2 ≤ length (now scratch) ⌝ }
-    ensures { λ r. ⌜ Writes limit (now (t .entry)) count (now (out .entry)) (countedValues r) (now (out .exit)) ⌝ }
+    ensures { λ r. ⌜ Writes limit (sheet (now (t .entry)) (now (column .entry))) count (now (out .entry)) (countedValues r) (now (out .exit)) ⌝ }
 {
-    match check(t, count, limit, scratch) {
+    match check_with(t, column, count, limit, scratch) {
         Checked::Refused(r) => Counted::Refused(r),
         Checked::Admitted => {
             let n = text_length(t, count);

@@ -6,7 +6,7 @@
 use std::process::ExitCode;
 
 use mespindro::kind::{APPLICATION, CONSTRUCTOR};
-use mespindro::{Reason, Refusal, Standing, TABLE};
+use mespindro::{Reason, Refusal, Standing, Table, TableMut, COLUMN, TABLE};
 
 /// The numbers of the rule sets in rules/.
 const PLACEMENT: u16 = 3;
@@ -62,7 +62,7 @@ fn print_thread(k: usize, standing: Standing, nodes: &[u16]) -> bool {
 }
 
 /// Prints every thread of the program in the table; true where there is one and all are placements.
-fn print_threads(table: &[u16], count: usize) -> bool {
+fn print_threads(table: Table<'_>, count: usize) -> bool {
     let mut all = true;
     let mut k = 0;
     loop {
@@ -80,12 +80,15 @@ fn print_threads(table: &[u16], count: usize) -> bool {
 }
 
 fn place(text: &[u8]) -> bool {
-    let mut table = [0; TABLE];
-    let count = match mespindro::read(text, &mut table) {
+    let (mut numbers, mut column) = ([0; TABLE], [0; COLUMN]);
+    let (mut work, mut work_column) = ([0; TABLE], [0; COLUMN]);
+    let mut table = TableMut::new(&mut numbers, &mut column);
+    let work = TableMut::new(&mut work, &mut work_column);
+    let count = match mespindro::read(text, table.reborrow()) {
         Ok(count) => count,
         Err(refusal) => return refused("read", refusal),
     };
-    let stop = match mespindro::run(&mut table, count, &mut [0; TABLE], STEP_LIMIT) {
+    let stop = match mespindro::run(table.reborrow(), count, work, STEP_LIMIT) {
         Ok(stop) => stop,
         Err(refusal) => return refused("run", refusal),
     };
@@ -98,7 +101,7 @@ fn place(text: &[u8]) -> bool {
     if stop.reason != Reason::Ended {
         println!("  {}", stop.counts);
     }
-    print_threads(&table, stop.nodes) && stop.reason == Reason::Ended
+    print_threads(table.as_table(), stop.nodes) && stop.reason == Reason::Ended
 }
 
 fn main() -> ExitCode {

@@ -44,10 +44,14 @@ extern "C" {
         text_length: usize,
         out: *mut u16,
         out_length: usize,
+        column: *mut u16,
+        column_length: usize,
     ) -> Count;
     pub fn mespindro_write(
         table: *const u16,
         table_length: usize,
+        column: *const u16,
+        column_length: usize,
         count: usize,
         out: *mut u8,
         out_length: usize,
@@ -55,26 +59,42 @@ extern "C" {
     pub fn mespindro_step(
         table: *const u16,
         table_length: usize,
+        column: *const u16,
+        column_length: usize,
         count: usize,
         out: *mut u16,
         out_length: usize,
+        out_column: *mut u16,
+        out_column_length: usize,
     ) -> Move;
     pub fn mespindro_run(
         table: *mut u16,
         table_length: usize,
+        column: *mut u16,
+        column_length: usize,
         count: usize,
         work: *mut u16,
         work_length: usize,
+        work_column: *mut u16,
+        work_column_length: usize,
         most: u32,
     ) -> Stop;
     pub fn mespindro_standing(
         table: *const u16,
         table_length: usize,
+        column: *const u16,
+        column_length: usize,
         count: usize,
         k: usize,
     ) -> Stand;
-    pub fn mespindro_thread(table: *const u16, table_length: usize, count: usize, k: usize)
-        -> Part;
+    pub fn mespindro_thread(
+        table: *const u16,
+        table_length: usize,
+        column: *const u16,
+        column_length: usize,
+        count: usize,
+        k: usize,
+    ) -> Part;
 }
 
 // where the fields of the two longer answers stand, and that there is nothing between them: a value with another number in each

@@ -1,34 +1,39 @@
 //! The evaluator of placement rules that is proved, over slices: the six calls of `include/mespindro.h`.
 //!
-//! A rule set is a program of a relational lambda calculus. It is exchanged as a text; in memory it is a *table*, two 16-bit numbers a node, in
-//! memory that the caller lends. Nothing is allocated and nothing is kept from call to call. docs/USING.md has the words, the rules and the
-//! refusals.
+//! A rule set is a program of a relational lambda calculus. It is exchanged as a text; in memory it is a *table*, two 16-bit numbers a node, and
+//! beside it a *column*, the size of the subtree at each node, both in memory that the caller lends ([`Table`], [`TableMut`]). Nothing is
+//! allocated and nothing is kept from call to call. docs/USING.md has the words, the rules and the refusals.
 //!
 //! Read a rule set, run it, and take its answers:
 //!
 //! ```
-//! use mespindro::{read, run, standing, thread, Reason, Refusal, Standing, TABLE};
+//! use mespindro::{read, run, standing, thread, Reason, Refusal, Standing, TableMut, COLUMN, TABLE};
 //!
 //! # fn main() -> Result<(), Refusal> {
 //! // two alternatives: one makes port 1 and port 2 equal, which cannot be; the other is port 2
 //! let text = b"((1:g(1:u(1:c4:5001)(1:c4:5002))(1:c4:5001))(1:c4:5002))";
 //!
-//! let mut table = [0; TABLE];
-//! let mut work = [0; TABLE];
-//! let count = read(text, &mut table)?;
-//! let stop = run(&mut table, count, &mut work, 10_000)?;
+//! let (mut numbers, mut column) = ([0; TABLE], [0; COLUMN]);
+//! let (mut work, mut work_column) = ([0; TABLE], [0; COLUMN]);
+//! let mut table = TableMut::new(&mut numbers, &mut column);
+//! let work = TableMut::new(&mut work, &mut work_column);
+//!
+//! let count = read(text, table.reborrow())?;
+//! let stop = run(table.reborrow(), count, work, 10_000)?;
 //! assert_eq!((stop.reason, stop.steps, stop.counts.fail), (Reason::Ended, 1, 1));
 //!
 //! // one alternative is left, a thread: an answer, the constructor 5002
-//! assert_eq!(standing(&table, stop.nodes, 0)?, Standing::Answer);
-//! assert_eq!(thread(&table, stop.nodes, 0), [mespindro::kind::CONSTRUCTOR, 5002]);
-//! assert_eq!(standing(&table, stop.nodes, 1), Err(Refusal::NoThread));
+//! let end = table.as_table();
+//! assert_eq!(standing(end, stop.nodes, 0)?, Standing::Answer);
+//! assert_eq!(thread(end, stop.nodes, 0), [mespindro::kind::CONSTRUCTOR, 5002]);
+//! assert_eq!(standing(end, stop.nodes, 1), Err(Refusal::NoThread));
 //! # Ok(())
 //! # }
 //! ```
 //!
-//! **No call has a condition on what the buffers hold**: any bytes, any numbers, any lengths, any counts. Each ends with its result or with a
-//! [`Refusal`], and a refused call has changed nothing. This is proved of the code in the archive. Not proved are the compiler's back end, this
+//! **No call has a condition on what the buffers hold**: any bytes, any numbers, any columns, any lengths, any counts. Each ends with its result
+//! or with a [`Refusal`], the first that applies in the order that is said for the call, and a refused call has changed nothing. This is proved
+//! of the code in the archive. Not proved are the compiler's back end, this
 //! binding, and that there is enough stack: docs/LIMITS.md has what each call takes, some 37 kilobytes for a read and up to some 190 for a step or
 //! a run of the deepest programs.
 //!
@@ -42,9 +47,11 @@ mod answer;
 mod c;
 pub mod kind;
 mod refusal;
+mod table;
 
 pub use answer::{Counts, Move, Reason, Rule, Standing, Stop};
 pub use refusal::Refusal;
+pub use table::{Table, TableMut};
 
 /// The example of the README is compiled and run too.
 #[cfg(doctest)]
@@ -60,60 +67,105 @@ pub const TEXT: usize = 24_576;
 /// The numbers of a table that holds every program.
 pub const TABLE: usize = 2 * NODES;
 
-/// Reads a text into a table and answers the node count.
+/// The numbers of a column that stands beside every program.
+pub const COLUMN: usize = NODES;
+
+/// Reads a text into a table and its column, and answers the node count.
 ///
-/// Accepted, the front of `out` is the program and the rest is as it was. [`TABLE`] numbers hold every program. Refuses 2 to 9.
+/// Accepted, the front of `out` is the program, that of its column the sizes of its subtrees, and the rest of both is as it was. [`TABLE`] and
+/// [`COLUMN`] numbers hold every program. Refuses 2 to 9, the lowest that applies; 9 where the table or the column is too short.
 ///
 /// ```
-/// use mespindro::{kind, read, Refusal};
+/// use mespindro::{kind, read, Refusal, TableMut};
 ///
-/// let mut table = [7; 8];
-/// assert_eq!(read(b"((1:c1:1))", &mut table), Ok(3));
-/// assert_eq!(table, [kind::ALTERNATIVE, 0, kind::CONSTRUCTOR, 1, kind::EMPTY, 0, 7, 7]);
-/// assert_eq!(read(b"((1:c1:1))\n", &mut table), Err(Refusal::NotCanonical));
+/// let (mut numbers, mut column) = ([7; 8], [7; 4]);
+/// let mut table = TableMut::new(&mut numbers, &mut column);
+/// assert_eq!(read(b"((1:c1:1))", table.reborrow()), Ok(3));
+/// assert_eq!(read(b"((1:c1:1))\n", table.reborrow()), Err(Refusal::NotCanonical));
+/// assert_eq!(numbers, [kind::ALTERNATIVE, 0, kind::CONSTRUCTOR, 1, kind::EMPTY, 0, 7, 7]);
+/// assert_eq!(column, [3, 1, 1, 7]);
 /// ```
-pub fn read(text: &[u8], out: &mut [u16]) -> Result<usize, Refusal> {
-    // SAFETY: both slices are valid for their lengths, and what is lent to be written is in no other use
-    let got = unsafe { c::mespindro_read(text.as_ptr(), text.len(), out.as_mut_ptr(), out.len()) };
-    counted(got)
+pub fn read(text: &[u8], out: TableMut<'_>) -> Result<usize, Refusal> {
+    let TableMut { numbers, column } = out;
+    // SAFETY: all slices are valid for their lengths, and what is lent to be written is in no other use
+    counted(unsafe {
+        c::mespindro_read(
+            text.as_ptr(),
+            text.len(),
+            numbers.as_mut_ptr(),
+            numbers.len(),
+            column.as_mut_ptr(),
+            column.len(),
+        )
+    })
 }
 
 /// Writes the text of the first `count` nodes and answers its length.
 ///
-/// Accepted, the front of `out` is the text and the rest is as it was. [`TEXT`] bytes hold every text. Refuses 1, 6, 8, 9.
+/// Accepted, the front of `out` is the text and the rest is as it was. [`TEXT`] bytes hold every text. Refuses 1, 14, 6, 8, 9, in this order.
 ///
 /// ```
-/// use mespindro::{kind, write};
+/// use mespindro::{kind, write, Table};
 ///
-/// let table = [kind::ALTERNATIVE, 0, kind::CONSTRUCTOR, 1, kind::EMPTY, 0];
+/// let numbers = [kind::ALTERNATIVE, 0, kind::CONSTRUCTOR, 1, kind::EMPTY, 0];
 /// let mut text = [0; 10];
-/// assert_eq!(write(&table, 3, &mut text), Ok(10));
+/// assert_eq!(write(Table::new(&numbers, &[3, 1, 1]), 3, &mut text), Ok(10));
 /// assert_eq!(&text, b"((1:c1:1))");
 /// ```
-pub fn write(table: &[u16], count: usize, out: &mut [u8]) -> Result<usize, Refusal> {
-    let (entry, length) = (table.as_ptr(), table.len());
+pub fn write(table: Table<'_>, count: usize, out: &mut [u8]) -> Result<usize, Refusal> {
+    let Table { numbers, column } = table;
     // SAFETY: as for `read`
-    counted(unsafe { c::mespindro_write(entry, length, count, out.as_mut_ptr(), out.len()) })
+    counted(unsafe {
+        c::mespindro_write(
+            numbers.as_ptr(),
+            numbers.len(),
+            column.as_ptr(),
+            column.len(),
+            count,
+            out.as_mut_ptr(),
+            out.len(),
+        )
+    })
 }
 
 /// Makes one step, into `out`, and answers the node count of its result, its rule and its thread.
 ///
-/// Accepted, the front of `out` is the program after the step and the rest is as it was. Refuses 1, 6, 7, 8, 9, 11.
+/// Accepted, the front of `out` is the program after the step, with its column, and the rest of both is as it was. Refuses 1, 14, 6, 7, 8, 9, 11,
+/// in this order; 9 where the output or its column is too short.
 ///
 /// ```
-/// use mespindro::{read, step, Refusal, Rule, TABLE};
+/// use mespindro::{read, step, Refusal, Rule, Table, TableMut};
 ///
-/// let (mut table, mut next) = ([0; TABLE], [0; TABLE]);
-/// let count = read(b"((1:g(1:c1:0)(1:c1:1)))", &mut table)?;
-/// let made = step(&table, count, &mut next)?;
-/// assert_eq!((made.rule, made.thread, made.nodes), (Rule::Guard, 0, 3));
-/// assert_eq!(step(&next, made.nodes, &mut table), Err(Refusal::Finished));
+/// let (mut numbers, mut column) = ([0; 14], [0; 7]);
+/// let count = read(b"((1:c1:1)(1:g(1:c1:0)(1:c1:2)))", TableMut::new(&mut numbers, &mut column))?;
+/// assert_eq!(column, [7, 1, 5, 3, 1, 1, 1]);
+///
+/// let (mut next, mut next_column) = ([0; 10], [0; 5]);
+/// let mut out = TableMut::new(&mut next, &mut next_column);
+/// let made = step(Table::new(&numbers, &column), count, out.reborrow())?;
+/// assert_eq!((made.rule, made.thread, made.nodes), (Rule::Guard, 1, 5));
+/// // the alternative before the thread that was worked on counts it
+/// assert_eq!(out.column, [5, 1, 3, 1, 1]);
+///
+/// let again = TableMut::new(&mut numbers, &mut column);
+/// assert_eq!(step(out.as_table(), made.nodes, again), Err(Refusal::Finished));
 /// # Ok::<(), Refusal>(())
 /// ```
-pub fn step(table: &[u16], count: usize, out: &mut [u16]) -> Result<Move, Refusal> {
-    let (entry, length) = (table.as_ptr(), table.len());
+pub fn step(table: Table<'_>, count: usize, out: TableMut<'_>) -> Result<Move, Refusal> {
     // SAFETY: as for `read`
-    let got = unsafe { c::mespindro_step(entry, length, count, out.as_mut_ptr(), out.len()) };
+    let got = unsafe {
+        c::mespindro_step(
+            table.numbers.as_ptr(),
+            table.numbers.len(),
+            table.column.as_ptr(),
+            table.column.len(),
+            count,
+            out.numbers.as_mut_ptr(),
+            out.numbers.len(),
+            out.column.as_mut_ptr(),
+            out.column.len(),
+        )
+    };
     refused(got.refusal, (got.nodes, got.rule, got.thread) == (0, 0, 0))?;
     Ok(Move {
         nodes: got.nodes,
@@ -124,26 +176,49 @@ pub fn step(table: &[u16], count: usize, out: &mut [u16]) -> Result<Move, Refusa
 
 /// Runs the program in the table for at most `most` steps.
 ///
-/// Its room is the least of what both tables hold, in whole nodes, and [`NODES`]. Accepted, `table` is the end program and then zeros to its
-/// very end, and `work` zeros only. A run that stopped by steps or by room goes on when it is called again, after room in larger tables. It
-/// cannot be interrupted: choose `most` so that a call is short enough. Refuses 1, 6, 8, 9.
+/// Its room is the least of what both tables hold, in whole nodes, what both columns hold, and [`NODES`]. Accepted, `table` is the end program
+/// and then zeros to its very end, its column the sizes of that program's subtrees and then zeros, and `work` and its column zeros only. A run
+/// that stopped by steps or by room goes on when it is called again, after room in larger tables and columns. It cannot be interrupted: choose
+/// `most` so that a call is short enough. Refuses 1, 14, 6, 8, 9, in this order; 9 where the work table or its column is too short for the
+/// program.
 ///
 /// ```
-/// use mespindro::{read, run, Reason, Refusal, TABLE};
+/// use mespindro::{read, run, Reason, Refusal, TableMut, COLUMN, TABLE};
 ///
-/// let (mut table, mut work) = ([0; TABLE], [0; TABLE]);
-/// let count = read(b"((1:g(1:c1:0)(1:g(1:c1:0)(1:c1:1))))", &mut table)?;
-/// let stop = run(&mut table, count, &mut work, 1)?;
+/// let (mut numbers, mut column) = ([0; TABLE], [0; COLUMN]);
+/// let (mut work, mut work_column) = ([0; TABLE], [0; COLUMN]);
+/// let mut table = TableMut::new(&mut numbers, &mut column);
+/// let mut work = TableMut::new(&mut work, &mut work_column);
+///
+/// let count = read(b"((1:g(1:c1:0)(1:g(1:c1:0)(1:c1:1))))", table.reborrow())?;
+/// let stop = run(table.reborrow(), count, work.reborrow(), 1)?;
 /// assert_eq!((stop.reason, stop.steps), (Reason::Steps, 1));
-/// let stop = run(&mut table, stop.nodes, &mut work, 1)?;
+/// let stop = run(table.reborrow(), stop.nodes, work.reborrow(), 1)?;
 /// assert_eq!((stop.reason, stop.steps), (Reason::Ended, 1));
+/// assert_eq!(table.column[..4], [3, 1, 1, 0]);
 /// # Ok::<(), Refusal>(())
 /// ```
-pub fn run(table: &mut [u16], count: usize, work: &mut [u16], most: u32) -> Result<Stop, Refusal> {
-    let (entry, length) = (table.as_mut_ptr(), table.len());
-    let (lent, size) = (work.as_mut_ptr(), work.len());
+pub fn run(
+    table: TableMut<'_>,
+    count: usize,
+    work: TableMut<'_>,
+    most: u32,
+) -> Result<Stop, Refusal> {
     // SAFETY: as for `read`
-    let got = unsafe { c::mespindro_run(entry, length, count, lent, size, most) };
+    let got = unsafe {
+        c::mespindro_run(
+            table.numbers.as_mut_ptr(),
+            table.numbers.len(),
+            table.column.as_mut_ptr(),
+            table.column.len(),
+            count,
+            work.numbers.as_mut_ptr(),
+            work.numbers.len(),
+            work.column.as_mut_ptr(),
+            work.column.len(),
+            most,
+        )
+    };
     let zeros = (got.nodes, got.steps, got.reason) == (0, 0, 0);
     refused(got.refusal, zeros && got.counts == Counts::default())?;
     Ok(Stop {
@@ -154,19 +229,30 @@ pub fn run(table: &mut [u16], count: usize, work: &mut [u16], most: u32) -> Resu
     })
 }
 
-/// How thread `k` stands, counted from 0. Refuses 1, 6, 8, 10.
+/// How thread `k` stands, counted from 0. Refuses 1, 14, 6, 8, 10, in this order.
 ///
 /// ```
-/// use mespindro::{kind, standing, Refusal, Standing};
+/// use mespindro::{kind, standing, Refusal, Standing, Table};
 ///
 /// // a variable: a port that no rule has fixed
-/// let table = [kind::ALTERNATIVE, 0, kind::FREE, 0, kind::EMPTY, 0];
-/// assert_eq!(standing(&table, 3, 0), Ok(Standing::Partial));
-/// assert_eq!(standing(&table, 3, 1), Err(Refusal::NoThread));
+/// let numbers = [kind::ALTERNATIVE, 0, kind::FREE, 0, kind::EMPTY, 0];
+/// let table = Table::new(&numbers, &[3, 1, 1]);
+/// assert_eq!(standing(table, 3, 0), Ok(Standing::Partial));
+/// assert_eq!(standing(table, 3, 1), Err(Refusal::NoThread));
 /// ```
-pub fn standing(table: &[u16], count: usize, k: usize) -> Result<Standing, Refusal> {
+pub fn standing(table: Table<'_>, count: usize, k: usize) -> Result<Standing, Refusal> {
+    let Table { numbers, column } = table;
     // SAFETY: as for `read`
-    let got = unsafe { c::mespindro_standing(table.as_ptr(), table.len(), count, k) };
+    let got = unsafe {
+        c::mespindro_standing(
+            numbers.as_ptr(),
+            numbers.len(),
+            column.as_ptr(),
+            column.len(),
+            count,
+            k,
+        )
+    };
     refused(got.refusal, got.standing == 0)?;
     Ok(known(Standing::of_code(got.standing)))
 }
@@ -174,16 +260,27 @@ pub fn standing(table: &[u16], count: usize, k: usize) -> Result<Standing, Refus
 /// The nodes of thread `k` in the caller's own table; empty exactly where [`standing`] refuses.
 ///
 /// ```
-/// use mespindro::{kind, thread};
+/// use mespindro::{kind, thread, Table};
 ///
-/// let table = [kind::ALTERNATIVE, 0, kind::CONSTRUCTOR, 1, kind::EMPTY, 0];
-/// assert_eq!(thread(&table, 3, 0), [kind::CONSTRUCTOR, 1]);
-/// assert!(thread(&table, 3, 1).is_empty());
+/// let numbers = [kind::ALTERNATIVE, 0, kind::CONSTRUCTOR, 1, kind::EMPTY, 0];
+/// let table = Table::new(&numbers, &[3, 1, 1]);
+/// assert_eq!(thread(table, 3, 0), [kind::CONSTRUCTOR, 1]);
+/// assert!(thread(table, 3, 1).is_empty());
 /// ```
-pub fn thread(table: &[u16], count: usize, k: usize) -> &[u16] {
+pub fn thread<'a>(table: Table<'a>, count: usize, k: usize) -> &'a [u16] {
+    let Table { numbers, column } = table;
     // SAFETY: as for `read`
-    let part = unsafe { c::mespindro_thread(table.as_ptr(), table.len(), count, k) };
-    &table[part.start..part.start + part.length]
+    let part = unsafe {
+        c::mespindro_thread(
+            numbers.as_ptr(),
+            numbers.len(),
+            column.as_ptr(),
+            column.len(),
+            count,
+            k,
+        )
+    };
+    &numbers[part.start..part.start + part.length]
 }
 
 fn counted(got: c::Count) -> Result<usize, Refusal> {

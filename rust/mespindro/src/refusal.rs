@@ -29,17 +29,19 @@ pub enum Refusal {
     TooManyNodes = 7,
     /// One location with two bodies in a thread, or a body that reaches a binder around it.
     Incoherent = 8,
-    /// The result does not fit the output; for a run, the program does not fit the work table.
+    /// The result does not fit the output or its column; for a run, the program does not fit the work table or its column.
     NoRoom = 9,
     /// There is no thread of that number.
     NoThread = 10,
     /// A single step is asked for and every thread is finished.
     Finished = 11,
+    /// The column of the program handed in is wrong or too short. It is asked directly after [`NoProgram`](Refusal::NoProgram).
+    WrongColumn = 14,
 }
 
 impl Refusal {
     /// All of them, in the order of their numbers.
-    pub const ALL: [Refusal; 11] = [
+    pub const ALL: [Refusal; 12] = [
         Refusal::NoProgram,
         Refusal::TooLong,
         Refusal::NotCanonical,
@@ -51,14 +53,15 @@ impl Refusal {
         Refusal::NoRoom,
         Refusal::NoThread,
         Refusal::Finished,
+        Refusal::WrongColumn,
     ];
 
-    /// Its number, 1 to 11.
+    /// Its number, 1 to 11 or 14.
     pub fn number(self) -> u16 {
         self as u16
     }
 
-    /// The refusal of a number, 1 to 11.
+    /// The refusal of a number, 1 to 11 or 14.
     pub fn of_number(number: u16) -> Option<Refusal> {
         Refusal::ALL.into_iter().find(|r| r.number() == number)
     }
@@ -77,6 +80,7 @@ impl Refusal {
             Refusal::NoRoom => "no room",
             Refusal::NoThread => "no thread",
             Refusal::Finished => "finished",
+            Refusal::WrongColumn => "wrong column",
         }
     }
 
@@ -91,9 +95,10 @@ impl Refusal {
             Refusal::NoBinder => "a bound variable that counts past its outermost binder",
             Refusal::TooManyNodes => "the rule set, or what one step makes of it, has over 2,048 nodes",
             Refusal::Incoherent => "one location with two different bodies in a thread, or a closure that reaches outside; hand-written L nodes: leave them to the evaluator",
-            Refusal::NoRoom => "the buffer that was lent is too small: for a run, the work table",
+            Refusal::NoRoom => "the buffer that was lent is too small: the output or its column; for a run, the work table or its column",
             Refusal::NoThread => "the thread number is past the last thread",
             Refusal::Finished => "a single step was asked for and there is none to make",
+            Refusal::WrongColumn => "the column is not the one that read, step or run left with this table, or it is shorter than the program",
         }
     }
 }

@@ -4,7 +4,7 @@ use std::collections::BTreeMap;
 use std::error::Error;
 use std::path::Path;
 
-use mespindro::{kind, Reason, Refusal, Rule, Standing, NODES, TABLE, TEXT};
+use mespindro::{kind, Reason, Refusal, Rule, Standing, TableMut, COLUMN, NODES, TABLE, TEXT};
 
 fn file(name: &str) -> String {
     let path = Path::new(env!("CARGO_MANIFEST_DIR"))
@@ -43,6 +43,8 @@ fn refusals() {
     }
     assert_eq!(Refusal::of_number(0), None);
     assert_eq!(Refusal::of_number(12), None);
+    assert_eq!(Refusal::of_number(13), None);
+    assert_eq!(Refusal::of_number(15), None);
 }
 
 #[test]
@@ -73,7 +75,11 @@ fn standings_and_rules() {
 #[test]
 fn an_error() {
     fn reads(text: &[u8]) -> Result<usize, Box<dyn Error>> {
-        Ok(mespindro::read(text, &mut [0; TABLE])?)
+        let (mut numbers, mut column) = ([0; TABLE], [0; COLUMN]);
+        Ok(mespindro::read(
+            text,
+            TableMut::new(&mut numbers, &mut column),
+        )?)
     }
     assert_eq!(reads(b"()").unwrap(), 1);
     let error = reads(b"()\n").unwrap_err();
@@ -108,6 +114,7 @@ fn the_header() {
         ("NODES".to_string(), NODES),
         ("TEXT".to_string(), TEXT),
         ("TABLE".to_string(), TABLE),
+        ("COLUMN".to_string(), COLUMN),
         ("ACCEPTED".to_string(), 0),
     ]);
     let kinds = [

@@ -19,6 +19,7 @@
 #![forbid(unsafe_code)]
 
 pub mod follow;
+pub mod memory;
 pub mod notation;
 pub mod page;
 pub mod redex;

@@ -10,6 +10,7 @@ use std::path::{Path, PathBuf};
 use std::process::ExitCode;
 
 use page_file::PageFile;
+use rules::memory::Memory;
 use rules::notation::{self, Error, Names};
 use rules::run::{describe, is_canonical, run_seen, RuleSet, STEPS};
 use rules::story::Story;
@@ -154,7 +155,7 @@ fn no_text(file: &Path, content: &[u8], error: &Error) -> Failure {
         return wrong(file, "this is a readable form, not a canonical text");
     }
     let mut failure = at(file, error);
-    if let Err(refusal) = mespindro::read(content, &mut [0; mespindro::TABLE]) {
+    if let Err(refusal) = mespindro::read(content, Memory::zeros().table_mut()) {
         failure.message += &format!("  a switch refuses it: {refusal}\n");
     }
     failure

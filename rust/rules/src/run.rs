@@ -1,8 +1,9 @@
 //! Running a rule set by the library, and telling its end.
 
-use mespindro::{Reason, Refusal, Standing, Stop, NODES, TABLE};
+use mespindro::{Reason, Refusal, Standing, Stop, NODES};
 
 use crate::follow::{Follow, Step};
+use crate::memory::Memory;
 use crate::notation::{self, rule, unknown, Error, Names};
 use crate::term::{closure_names, each_term, free_variables, of_nodes, Program, Term};
 
@@ -68,11 +69,11 @@ pub fn run_seen(
     steps: u32,
     see: &mut dyn FnMut(&Step),
 ) -> Result<End, Refusal> {
-    let mut table = vec![0; TABLE];
-    let count = mespindro::read(&rule_set.text(), &mut table)?;
-    let stop = mespindro::run(&mut table, count, &mut vec![0; TABLE], steps)?;
-    let program = of_nodes(&table[..2 * stop.nodes]);
-    let standings = (0..program.len()).map(|k| mespindro::standing(&table, stop.nodes, k));
+    let (mut memory, mut work) = (Memory::zeros(), Memory::zeros());
+    let count = mespindro::read(&rule_set.text(), memory.table_mut())?;
+    let stop = mespindro::run(memory.table_mut(), count, work.table_mut(), steps)?;
+    let program = of_nodes(&memory.numbers[..2 * stop.nodes]);
+    let standings = (0..program.len()).map(|k| mespindro::standing(memory.table(), stop.nodes, k));
     let standings = standings.collect::<Result<Vec<_>, Refusal>>()?;
     let mut follow = Follow::new(rule_set)?;
     for _ in 0..stop.steps {

@@ -37,16 +37,18 @@ _Static_assert(MESPINDRO_RULE_UNIF == 5, "unif");
 _Static_assert(MESPINDRO_RULE_FAIL == 6, "fail");
 
 static uint8_t text[MESPINDRO_TEXT + 1];
-static uint16_t table[MESPINDRO_TABLE];
-static uint16_t work[MESPINDRO_TABLE];
+static uint16_t table[MESPINDRO_TABLE], column[MESPINDRO_COLUMN];
+static uint16_t work[MESPINDRO_TABLE], work_column[MESPINDRO_COLUMN];
 
 static void step(size_t count) {
-    struct mespindro_move move = mespindro_step(table, MESPINDRO_TABLE, count, work, MESPINDRO_TABLE);
+    struct mespindro_move move = mespindro_step(table, MESPINDRO_TABLE, column, MESPINDRO_COLUMN, count, work, MESPINDRO_TABLE, work_column,
+                                                MESPINDRO_COLUMN);
     printf("step: nodes %zu, thread %lu, rule %u, refusal %u\n", move.nodes, (unsigned long)move.thread, (unsigned)move.rule, (unsigned)move.refusal);
 }
 
 static size_t run(size_t count) {
-    struct mespindro_stop stop = mespindro_run(table, MESPINDRO_TABLE, count, work, MESPINDRO_TABLE, 1000);
+    struct mespindro_stop stop = mespindro_run(table, MESPINDRO_TABLE, column, MESPINDRO_COLUMN, count, work, MESPINDRO_TABLE, work_column,
+                                               MESPINDRO_COLUMN, 1000);
     printf("run: nodes %zu, steps %lu, alloc %lu, beta %lu, fresh %lu, guard %lu, unif %lu, fail %lu, reason %u, refusal %u\n", stop.nodes,
            (unsigned long)stop.steps, (unsigned long)stop.counts.alloc, (unsigned long)stop.counts.beta, (unsigned long)stop.counts.fresh,
            (unsigned long)stop.counts.guard, (unsigned long)stop.counts.unif, (unsigned long)stop.counts.fail, (unsigned)stop.reason,
@@ -63,7 +65,7 @@ int main(int count, char **arguments) {
     }
     size_t length = fread(text, 1, sizeof text, file);
     fclose(file);
-    struct mespindro_count read = mespindro_read(text, length, table, MESPINDRO_TABLE);
+    struct mespindro_count read = mespindro_read(text, length, table, MESPINDRO_TABLE, column, MESPINDRO_COLUMN);
     step(read.count);
     size_t nodes = run(read.count);
     step(nodes);

@@ -1,10 +1,12 @@
 //! The calls that are compared on a text or a table: at each length, count, thread number and limit where an answer may change.
 
 use crate::compare::Call;
+use crate::damage::{any_column, Damage};
+use crate::evaluator::column::column;
 use crate::evaluator::step::{step, Step};
-use crate::evaluator::table::{read_table, write_table};
+use crate::evaluator::table::{decode, read_table, write_table, OwnTable};
 use crate::evaluator::tree::{program_size, Program};
-use crate::evaluator::{self, NODES};
+use crate::evaluator::{self, Lengths, NODES};
 use crate::generate;
 use crate::random::Random;
 use mespindro::Reason;
@@ -14,9 +16,13 @@ const MOST_STEPS: u32 = 60;
 
 /// The calls on a random input.
 pub fn random_calls(random: &mut Random) -> Vec<Call> {
+    if random.one_in(200) {
+        return on_program(&generate::large_program(random), random);
+    }
     match random.below(10) {
         0..=3 => on_text(&generate::text(random)),
-        4..=7 => on_program(&generate::sound_program(random), random),
+        4..=6 => on_program(&generate::sound_program(random), random),
+        7 => on_program(&generate::worked_program(random), random),
         8 => on_program(&generate::faulty_program(random), random),
         _ => on_odd_table(random),
     }
@@ -24,65 +30,98 @@ pub fn random_calls(random: &mut Random) -> Vec<Call> {
 
 /// Reading, at the output lengths around the result's.
 pub fn on_text(text: &[u8]) -> Vec<Call> {
-    let exact = evaluator::read(text, usize::MAX).map_or(0, |t| t.len());
-    around(exact, &[0, 2 * NODES])
-        .into_iter()
-        .map(|out| Call::Read {
-            text: text.to_vec(),
-            out,
-        })
-        .collect()
+    let nodes = evaluator::read(text, Lengths::ANY).map_or(0, |t| t.column.len());
+    let read = |out| Call::Read {
+        text: text.to_vec(),
+        out,
+    };
+    outputs(nodes).into_iter().map(read).collect()
 }
 
 /// Every call on a program's table.
 pub fn on_program(program: &Program, random: &mut Random) -> Vec<Call> {
-    let table = write_table(program);
-    let count = table.len() / 2;
-    let mut calls = on_table(&with_tail(&table, random), count, random);
+    let table = OwnTable::of(program);
+    let count = table.column.len();
+    let mut calls = on_table(&with_tails(&table, random), count, random);
     calls.extend(runs(&table, random));
     for count in wrong_counts(count, random) {
-        calls.extend(one_of_each(&table, count));
+        calls.extend(one_of_each(&table, count, NODES));
+    }
+    for _ in 0..3 {
+        let damage = random.pick(&Damage::ALL);
+        calls.extend(on_damaged_column(&table, damage, random));
     }
     let text = evaluator::text::write_text(program);
-    calls.push(Call::Read {
-        text,
-        out: table.len(),
-    });
+    let out = Lengths::for_nodes(count);
+    calls.push(Call::Read { text, out });
     calls
+}
+
+/// Each call on a program's table with a column damaged in this way, where it can be.
+pub fn on_damaged_column(table: &OwnTable, damage: Damage, random: &mut Random) -> Vec<Call> {
+    let count = table.column.len();
+    let Some(column) = damage.done_to(table, random) else {
+        return Vec::new();
+    };
+    let numbers = table.numbers.clone();
+    let mut table = OwnTable { numbers, column };
+    // a column that is long enough may have any numbers behind it
+    if table.column.len() == count {
+        table = with_tails(&table, random);
+    }
+    // the column is asked for before any output
+    one_of_each(&table, count, random.pick(&[0, NODES]))
 }
 
 /// Every call on a table that need not be a program.
 fn on_odd_table(random: &mut Random) -> Vec<Call> {
-    let table = if random.one_in(2) {
+    let numbers = if random.one_in(2) {
         generate::any_table(random)
     } else {
         let program = generate::faulty_program(random);
         generate::damaged_table(&write_table(&program), random)
     };
+    let nodes = numbers.len() / 2;
     let mut calls = Vec::new();
     // short tables of random numbers are programs at some count, now and then
-    for count in 0..=(table.len() / 2 + 1).min(9) {
-        calls.extend(one_of_each(&table, count));
+    for count in (0..=(nodes + 1).min(9)).chain([nodes]) {
+        let table = OwnTable {
+            column: odd_column(&numbers, count, random),
+            numbers: numbers.clone(),
+        };
+        calls.extend(one_of_each(&table, count, NODES));
     }
-    calls.extend(one_of_each(&table, table.len() / 2));
     calls
 }
 
+/// A column for a table that need not be a program: where it is one most often its own, else any.
+fn odd_column(numbers: &[u16], count: usize, random: &mut Random) -> Vec<u16> {
+    match decode(numbers, count) {
+        Some(program) if !random.one_in(4) => column(&program),
+        _ => {
+            let length = random.pick(&[0, 1, count, count + 1]);
+            any_column(length, random)
+        }
+    }
+}
+
 /// Writing, stepping and the thread calls, at each length and number where the answer may change.
-fn on_table(table: &[u16], count: usize, random: &mut Random) -> Vec<Call> {
+fn on_table(table: &OwnTable, count: usize, random: &mut Random) -> Vec<Call> {
     let mut calls = Vec::new();
-    let text = evaluator::write(table, count, usize::MAX).map_or(0, |t| t.len());
+    let text = evaluator::write(table.lent(), count, usize::MAX).map_or(0, |t| t.len());
     for out in around(text, &[0]) {
-        let table = table.to_vec();
+        let table = table.clone();
         calls.push(Call::Write { table, count, out });
     }
-    let result = evaluator::step(table, count, usize::MAX);
-    let result = result.and_then(Result::ok).map_or(0, |(_, t)| t.len());
-    for out in around(result, &[0, 2 * NODES, 2 * NODES + 1]) {
-        let table = table.to_vec();
+    let result = evaluator::step(table.lent(), count, Lengths::ANY);
+    let nodes = result
+        .and_then(Result::ok)
+        .map_or(0, |(made, _)| made.nodes);
+    for out in outputs(nodes) {
+        let table = table.clone();
         calls.push(Call::Step { table, count, out });
     }
-    let threads = read_table(table, count).map_or(0, |p| p.len());
+    let threads = read_table(table.lent(), count).map_or(0, |p| p.len());
     for k in [0, threads / 2, threads, threads + 1, usize::MAX] {
         calls.extend(of_thread(table, count, k));
     }
@@ -91,8 +130,8 @@ fn on_table(table: &[u16], count: usize, random: &mut Random) -> Vec<Call> {
     calls
 }
 
-fn of_thread(table: &[u16], count: usize, k: usize) -> [Call; 2] {
-    let table = table.to_vec();
+fn of_thread(table: &OwnTable, count: usize, k: usize) -> [Call; 2] {
+    let table = table.clone();
     let standing = Call::Standing {
         table: table.clone(),
         count,
@@ -102,8 +141,8 @@ fn of_thread(table: &[u16], count: usize, k: usize) -> [Call; 2] {
 }
 
 /// Runs at limits and in rooms where the answer may change.
-fn runs(table: &[u16], random: &mut Random) -> Vec<Call> {
-    let count = table.len() / 2;
+fn runs(table: &OwnTable, random: &mut Random) -> Vec<Call> {
+    let count = table.column.len();
     let (sizes, stops) = sizes_of_run(table, count);
     let steps = sizes.len() as u32 - 1;
     let mut limits = vec![0, 1, steps.saturating_sub(1), steps, steps + 1];
@@ -111,29 +150,48 @@ fn runs(table: &[u16], random: &mut Random) -> Vec<Call> {
         limits.push(u32::MAX);
     }
     let mut calls = Vec::new();
-    for most in limits {
+    for most in limits.into_iter().flat_map(|most| [most, most]) {
         let room = random.pick(&sizes).min(NODES);
-        let tight = 2 * room.max(count) + random.below(2);
-        let wide = 2 * NODES + random.pick(&[0, 0, 1, 100]);
-        let less = (2 * room).saturating_sub(random.below(4));
-        let short = (2 * count).saturating_sub(random.between(1, 2));
-        let lengths = [(tight, wide), (wide, tight), (wide, less), (wide, short)];
-        for (table_length, work) in [lengths[random.below(3)], random.pick(&lengths)] {
-            calls.push(Call::Run {
-                table: lengthened(table, table_length, random),
-                count,
-                work,
-                most,
-            });
-        }
+        let (lengths, work) = run_lengths(count, room, random);
+        calls.push(Call::Run {
+            table: lengthened(table, lengths, random),
+            count,
+            work,
+            most,
+        });
     }
     calls
 }
 
+/// The lengths of a run's table and work table: one of the four bounds the room, or is too short for the program; the others hold every program.
+fn run_lengths(count: usize, room: usize, random: &mut Random) -> (Lengths, Lengths) {
+    let (mut table, mut work) = (wide(random), wide(random));
+    let tight = room.max(count);
+    match random.below(10) {
+        0 => table.numbers = 2 * tight + random.below(2),
+        1 | 2 => table.column = tight,
+        3 => work.numbers = 2 * tight + random.below(2),
+        4 | 5 => work.column = tight,
+        6 => work.numbers = (2 * room).saturating_sub(random.below(4)),
+        7 => work.column = room.saturating_sub(random.below(3)),
+        8 => work.numbers = (2 * count).saturating_sub(random.between(1, 2)),
+        _ => work.column = random.pick(&[0, count - 1]),
+    }
+    (table, work)
+}
+
+/// Lengths that hold every program.
+fn wide(random: &mut Random) -> Lengths {
+    Lengths {
+        numbers: 2 * NODES + random.pick(&[0, 0, 1, 100]),
+        column: NODES + random.pick(&[0, 0, 1, 100]),
+    }
+}
+
 /// The node counts of the programs that a run goes through, and whether it stops by itself.
-fn sizes_of_run(table: &[u16], count: usize) -> (Vec<usize>, bool) {
+fn sizes_of_run(table: &OwnTable, count: usize) -> (Vec<usize>, bool) {
     let mut sizes = vec![count];
-    let Ok(mut program) = read_table(table, count) else {
+    let Ok(mut program) = read_table(table.lent(), count) else {
         return (sizes, true);
     };
     for _ in 0..MOST_STEPS {
@@ -148,25 +206,25 @@ fn sizes_of_run(table: &[u16], count: usize) -> (Vec<usize>, bool) {
     (sizes, more.is_some_and(|run| run.reason == Reason::Ended))
 }
 
-/// Each call once, in memory that is large enough.
-fn one_of_each(table: &[u16], count: usize) -> Vec<Call> {
-    let whole = || table.to_vec();
-    let out = 2 * NODES;
+/// Each call once, in memory that is lent for so many nodes.
+fn one_of_each(table: &OwnTable, count: usize, nodes: usize) -> Vec<Call> {
+    let whole = || table.clone();
+    let lengths = Lengths::for_nodes(nodes);
     let mut calls = vec![
         Call::Write {
             table: whole(),
             count,
-            out: evaluator::TEXT,
+            out: 12 * nodes,
         },
         Call::Step {
             table: whole(),
             count,
-            out,
+            out: lengths,
         },
         Call::Run {
             table: whole(),
             count,
-            work: out,
+            work: lengths,
             most: MOST_STEPS,
         },
     ];
@@ -188,6 +246,26 @@ fn wrong_counts(count: usize, random: &mut Random) -> [usize; 3] {
     [random.pick(&all), random.pick(&all), random.pick(&all)]
 }
 
+/// The lengths of an output and its column at which a result of so many nodes just fits either, and others; 0 where there is none.
+fn outputs(nodes: usize) -> Vec<Lengths> {
+    if nodes == 0 {
+        return [0, 1, NODES].map(Lengths::for_nodes).to_vec();
+    }
+    let by_numbers = around(2 * nodes, &[0, 2 * NODES, 2 * NODES + 1]);
+    let by_column = around(nodes, &[0]);
+    let exact = Lengths::for_nodes(nodes);
+    let mut lengths = vec![exact, Lengths::for_nodes(0)];
+    lengths.extend(by_numbers.into_iter().map(|numbers| Lengths {
+        numbers,
+        column: NODES,
+    }));
+    lengths.extend(by_column.into_iter().map(|column| Lengths {
+        numbers: 2 * NODES,
+        column,
+    }));
+    lengths
+}
+
 /// The lengths at which something of exactly this length just fits, and others.
 fn around(exact: usize, others: &[usize]) -> Vec<usize> {
     let mut lengths = vec![exact, exact + 1];
@@ -199,16 +277,30 @@ fn around(exact: usize, others: &[usize]) -> Vec<usize> {
     lengths
 }
 
-/// The table with up to five more numbers, which are no part of the program.
-fn with_tail(table: &[u16], random: &mut Random) -> Vec<u16> {
-    let length = table.len() + random.pick(&[0, 0, 1, 2, 5]);
-    lengthened(table, length, random)
+/// The table and its column with up to five more numbers each, which are no part of the program.
+fn with_tails(table: &OwnTable, random: &mut Random) -> OwnTable {
+    let tails = [0, 0, 1, 2, 5];
+    let lengths = Lengths {
+        numbers: table.numbers.len() + random.pick(&tails),
+        column: table.column.len() + random.pick(&tails),
+    };
+    lengthened(table, lengths, random)
 }
 
-fn lengthened(table: &[u16], length: usize, random: &mut Random) -> Vec<u16> {
-    let mut table = table.to_vec();
-    while table.len() < length {
-        table.push(random.below(12) as u16);
+fn lengthened(table: &OwnTable, lengths: Lengths, random: &mut Random) -> OwnTable {
+    OwnTable {
+        numbers: with_tail(&table.numbers, lengths.numbers, random),
+        column: with_tail(&table.column, lengths.column, random),
     }
-    table
+}
+
+/// The numbers with others behind them up to a length: a few over and over, since long tails are many.
+fn with_tail(numbers: &[u16], length: usize, random: &mut Random) -> Vec<u16> {
+    let few: [u16; 7] = std::array::from_fn(|_| random.below(12) as u16);
+    let mut whole = numbers.to_vec();
+    while whole.len() < length {
+        let missing = length - whole.len();
+        whole.extend_from_slice(&few[..missing.min(few.len())]);
+    }
+    whole
 }

@@ -2,39 +2,40 @@
 //!
 //! A comparison answers `Err` with what differs, `Ok(None)` where the evaluator cannot tell.
 
-use crate::evaluator;
-use mespindro::Refusal;
+use crate::evaluator::table::OwnTable;
+use crate::evaluator::{self, Lengths};
+use mespindro::{Refusal, Table, TableMut};
 
-/// A call with all it depends on; outputs and work tables by their length.
+/// A call with all it depends on; outputs and work tables by their lengths.
 #[derive(Clone, Debug, PartialEq, Eq)]
 pub enum Call {
     Read {
         text: Vec<u8>,
-        out: usize,
+        out: Lengths,
     },
     Write {
-        table: Vec<u16>,
+        table: OwnTable,
         count: usize,
         out: usize,
     },
     Step {
-        table: Vec<u16>,
+        table: OwnTable,
         count: usize,
-        out: usize,
+        out: Lengths,
     },
     Run {
-        table: Vec<u16>,
+        table: OwnTable,
         count: usize,
-        work: usize,
+        work: Lengths,
         most: u32,
     },
     Standing {
-        table: Vec<u16>,
+        table: OwnTable,
         count: usize,
         k: usize,
     },
     Thread {
-        table: Vec<u16>,
+        table: OwnTable,
         count: usize,
         k: usize,
     },
@@ -54,16 +55,16 @@ pub enum Outcome {
 pub fn compare(call: &Call) -> Comparison {
     match call {
         Call::Read { text, out } => read(text, *out),
-        Call::Write { table, count, out } => write(table, *count, *out),
-        Call::Step { table, count, out } => step(table, *count, *out),
+        Call::Write { table, count, out } => write(table.lent(), *count, *out),
+        Call::Step { table, count, out } => step(table.lent(), *count, *out),
         Call::Run {
             table,
             count,
             work,
             most,
-        } => run(table, *count, *work, *most),
-        Call::Standing { table, count, k } => standing(table, *count, *k),
-        Call::Thread { table, count, k } => thread(table, *count, *k),
+        } => run(table.lent(), *count, *work, *most),
+        Call::Standing { table, count, k } => standing(table.lent(), *count, *k),
+        Call::Thread { table, count, k } => thread(table.lent(), *count, *k),
     }
 }
 
@@ -71,7 +72,7 @@ pub fn compare(call: &Call) -> Comparison {
 #[derive(Clone, Debug, Default)]
 pub struct Tally {
     pub accepted: usize,
-    pub refused: [usize; 12],
+    pub refused: [usize; 15],
     pub untold: usize,
 }
 
@@ -104,27 +105,33 @@ impl std::fmt::Display for Tally {
     }
 }
 
-pub fn read(text: &[u8], out: usize) -> Comparison {
+pub fn read(text: &[u8], out: Lengths) -> Comparison {
     let text = Lent::holding(text);
-    let mut output = Lent::filled(FILL, out);
+    let mut output = LentTable::filled(out, text.part().len());
     let got = mespindro::read(text.part(), output.part_mut());
     let expected = evaluator::read(text.part(), out);
     text.kept("the text")?;
-    filled(got, &expected, 2, &output)
+    let counted = expected.as_ref().map(|table| table.column.len());
+    same("the answer", &got, &counted.map_err(|r| *r))?;
+    output.has("the output", expected.as_ref().ok())?;
+    Ok(Some(outcome(&expected)))
 }
 
-pub fn write(table: &[u16], count: usize, out: usize) -> Comparison {
-    let table = Lent::holding(table);
+pub fn write(table: Table<'_>, count: usize, out: usize) -> Comparison {
+    let table = LentTable::holding(table);
     let mut output = Lent::filled(FILL as u8, out);
     let got = mespindro::write(table.part(), count, output.part_mut());
     let expected = evaluator::write(table.part(), count, out);
     table.kept("the table")?;
-    filled(got, &expected, 1, &output)
+    let counted = expected.as_ref().map(Vec::len);
+    same("the answer", &got, &counted.map_err(|r| *r))?;
+    output.has_front("the output", expected.as_deref().unwrap_or(&[]))?;
+    Ok(Some(outcome(&expected)))
 }
 
-pub fn step(table: &[u16], count: usize, out: usize) -> Comparison {
-    let table = Lent::holding(table);
-    let mut output = Lent::filled(FILL, out);
+pub fn step(table: Table<'_>, count: usize, out: Lengths) -> Comparison {
+    let table = LentTable::holding(table);
+    let mut output = LentTable::filled(out, count);
     let got = mespindro::step(table.part(), count, output.part_mut());
     table.kept("the table")?;
     let Some(expected) = evaluator::step(table.part(), count, out) else {
@@ -132,34 +139,36 @@ pub fn step(table: &[u16], count: usize, out: usize) -> Comparison {
     };
     let answer = expected.as_ref().map(|(made, _)| *made).map_err(|r| *r);
     same("the answer", &got, &answer)?;
-    let nodes = got.map(|made| made.nodes);
-    filled(nodes, &expected.map(|(_, result)| result), 2, &output)
-}
-
-pub fn run(table: &[u16], count: usize, work: usize, most: u32) -> Comparison {
-    let Some(expected) = evaluator::run(table, count, work, most) else {
-        return Ok(None);
-    };
-    let mut lent = Lent::holding(table);
-    let mut worked = Lent::filled(FILL, work);
-    let got = mespindro::run(lent.part_mut(), count, worked.part_mut(), most);
-    let answer = expected.as_ref().map(|(stop, _)| *stop).map_err(|r| *r);
-    same("the answer", &got, &answer)?;
-    let (table_after, work_after) = match &expected {
-        Ok((_, end)) => {
-            let mut whole = end.clone();
-            whole.resize(table.len(), 0);
-            (whole, vec![0; work])
-        }
-        Err(_) => (table.to_vec(), vec![FILL; work]),
-    };
-    lent.holds("the table", &table_after)?;
-    worked.holds("the work table", &work_after)?;
+    let result = expected.as_ref().map(|(_, result)| result);
+    output.has("the output", result.ok())?;
     Ok(Some(outcome(&expected)))
 }
 
-pub fn standing(table: &[u16], count: usize, k: usize) -> Comparison {
-    let table = Lent::holding(table);
+pub fn run(table: Table<'_>, count: usize, work: Lengths, most: u32) -> Comparison {
+    let Some(expected) = evaluator::run(table, count, work, most) else {
+        return Ok(None);
+    };
+    let mut lent = LentTable::holding(table);
+    let mut worked = LentTable::filled(work, count);
+    let got = mespindro::run(lent.part_mut(), count, worked.part_mut(), most);
+    let answer = expected.as_ref().map(|(stop, _)| *stop).map_err(|r| *r);
+    same("the answer", &got, &answer)?;
+    match &expected {
+        Ok((stop, end)) => {
+            lent.has_and_zeros("the table", &end.numbers, &end.column)?;
+            worked.has_and_zeros("the work table", &[], &[])?;
+            taken_again("the table", lent.part(), stop.nodes)?;
+        }
+        Err(_) => {
+            lent.kept("the table")?;
+            worked.kept("the work table")?;
+        }
+    }
+    Ok(Some(outcome(&expected)))
+}
+
+pub fn standing(table: Table<'_>, count: usize, k: usize) -> Comparison {
+    let table = LentTable::holding(table);
     let got = mespindro::standing(table.part(), count, k);
     let expected = evaluator::standing(table.part(), count, k);
     table.kept("the table")?;
@@ -167,16 +176,24 @@ pub fn standing(table: &[u16], count: usize, k: usize) -> Comparison {
     Ok(Some(outcome(&expected)))
 }
 
-pub fn thread(table: &[u16], count: usize, k: usize) -> Comparison {
-    let table = Lent::holding(table);
+pub fn thread(table: Table<'_>, count: usize, k: usize) -> Comparison {
+    let table = LentTable::holding(table);
+    let numbers = table.numbers.part();
     let got = mespindro::thread(table.part(), count, k);
     let expected = evaluator::thread(table.part(), count, k);
     match expected {
         Ok((start, end)) => {
-            same("the part", &got, &&table.part()[start..end])?;
+            same("the part", &got, &&numbers[start..end])?;
             // the caller's own numbers, not a copy
-            let far = got.as_ptr() as usize - table.part().as_ptr() as usize;
+            let far = got.as_ptr() as usize - numbers.as_ptr() as usize;
             same("where the part starts", &far, &(2 * start))?;
+            // what the header says of the part's own entries
+            let first = table.column.part()[start / 2];
+            same(
+                "the part's first entry",
+                &usize::from(first),
+                &(got.len() / 2),
+            )?;
         }
         Err(_) => same("the part's length", &got.len(), &0)?,
     }
@@ -184,21 +201,10 @@ pub fn thread(table: &[u16], count: usize, k: usize) -> Comparison {
     Ok(Some(outcome(&expected)))
 }
 
-/// Compares an answered count and the output behind it: the result at the front, the rest as it was.
-fn filled<T: Number>(
-    got: Result<usize, Refusal>,
-    expected: &Result<Vec<T>, Refusal>,
-    numbers_a_count: usize,
-    output: &Lent<T>,
-) -> Comparison {
-    let counted = expected.as_ref().map(|r| r.len() / numbers_a_count);
-    same("the answer", &got, &counted.map_err(|r| *r))?;
-    let mut after = output.before.clone();
-    if let Ok(result) = expected {
-        after[..result.len()].copy_from_slice(result);
-    }
-    output.holds("the output", &after)?;
-    Ok(Some(outcome(expected)))
+/// That the library takes what it has left: it comes as far as the thread number, which is past every thread.
+fn taken_again(what: &str, left: Table<'_>, count: usize) -> Result<(), String> {
+    let again = mespindro::standing(left, count, usize::MAX);
+    same(&format!("{what} again"), &again, &Err(Refusal::NoThread))
 }
 
 fn outcome<T>(result: &Result<T, Refusal>) -> Outcome {
@@ -217,7 +223,7 @@ fn same<T: PartialEq + std::fmt::Debug>(what: &str, got: &T, expected: &T) -> Re
     ))
 }
 
-/// What outputs and work tables hold before a call: no kind, and no ASCII in either byte.
+/// What outputs and work tables hold before most calls: no kind, no size of a subtree, and no ASCII in either byte.
 const FILL: u16 = 0xd7d7;
 
 /// The numbers on either side of lent memory.
@@ -235,6 +241,65 @@ impl Number for u16 {
     const MARK: u16 = 0xa95c;
 }
 
+/// A table and its column, each lent between margins of its own.
+struct LentTable {
+    numbers: Lent<u16>,
+    column: Lent<u16>,
+}
+
+impl LentTable {
+    fn holding(table: Table<'_>) -> LentTable {
+        LentTable {
+            numbers: Lent::holding(table.numbers),
+            column: Lent::holding(table.column),
+        }
+    }
+
+    /// What it holds has no influence: now and then it is what ends a program or counts a leaf. By the input, so that a call stays the same.
+    fn filled(lengths: Lengths, input: usize) -> LentTable {
+        let fill = match input % 8 {
+            0 => 0,
+            1 => 1,
+            _ => FILL,
+        };
+        LentTable {
+            numbers: Lent::filled(fill, lengths.numbers),
+            column: Lent::filled(fill, lengths.column),
+        }
+    }
+
+    fn part(&self) -> Table<'_> {
+        Table::new(self.numbers.part(), self.column.part())
+    }
+
+    fn part_mut(&mut self) -> TableMut<'_> {
+        TableMut::new(self.numbers.part_mut(), self.column.part_mut())
+    }
+
+    fn kept(&self, what: &str) -> Result<(), String> {
+        self.numbers.kept(what)?;
+        self.column.kept(&format!("{what}'s column"))
+    }
+
+    /// That a result stands at the front and the library takes it again; without one, that all is as it was.
+    fn has(&self, what: &str, result: Option<&OwnTable>) -> Result<(), String> {
+        let Some(result) = result else {
+            return self.kept(what);
+        };
+        self.numbers.has_front(what, &result.numbers)?;
+        self.column
+            .has_front(&format!("{what}'s column"), &result.column)?;
+        taken_again(what, self.part(), result.column.len())
+    }
+
+    /// That these numbers and entries stand at the front and zeros behind them, to the very end of each.
+    fn has_and_zeros(&self, what: &str, numbers: &[u16], column: &[u16]) -> Result<(), String> {
+        self.numbers.has_and_zeros(what, numbers)?;
+        self.column
+            .has_and_zeros(&format!("{what}'s column"), column)
+    }
+}
+
 /// Lent memory between two margins.
 struct Lent<T> {
     cells: Vec<T>,
@@ -243,16 +308,19 @@ struct Lent<T> {
 
 impl<T: Number> Lent<T> {
     fn holding(content: &[T]) -> Lent<T> {
-        let mut cells = vec![T::MARK; content.len() + 2 * MARGIN];
-        cells[MARGIN..MARGIN + content.len()].copy_from_slice(content);
-        Lent {
-            cells,
-            before: content.to_vec(),
-        }
+        Lent::between_margins(content.to_vec())
     }
 
     fn filled(number: T, length: usize) -> Lent<T> {
-        Lent::holding(&vec![number; length])
+        Lent::between_margins(vec![number; length])
+    }
+
+    fn between_margins(before: Vec<T>) -> Lent<T> {
+        let mut cells = Vec::with_capacity(before.len() + 2 * MARGIN);
+        cells.extend([T::MARK; MARGIN]);
+        cells.extend_from_slice(&before);
+        cells.extend([T::MARK; MARGIN]);
+        Lent { cells, before }
     }
 
     fn part(&self) -> &[T] {
@@ -265,25 +333,41 @@ impl<T: Number> Lent<T> {
     }
 
     fn kept(&self, what: &str) -> Result<(), String> {
-        self.holds(what, &self.before)
+        self.has_front(what, &[])
     }
 
-    /// That the part holds these numbers and the margins their marks.
-    fn holds(&self, what: &str, expected: &[T]) -> Result<(), String> {
-        let (front, back) = (
+    /// That the part begins with these numbers and its rest is as it was.
+    fn has_front(&self, what: &str, front: &[T]) -> Result<(), String> {
+        self.holds(what, front, &self.before[front.len()..])
+    }
+
+    /// That the part is these two after each other and the margins have their marks.
+    fn holds(&self, what: &str, front: &[T], rest: &[T]) -> Result<(), String> {
+        let (before, behind) = (
             &self.cells[..MARGIN],
             &self.cells[self.cells.len() - MARGIN..],
         );
-        if front.iter().chain(back).any(|cell| *cell != T::MARK) {
+        if before.iter().chain(behind).any(|cell| *cell != T::MARK) {
             return Err(format!("{what}: written outside of the lent memory"));
         }
-        match (0..expected.len()).find(|i| self.part()[*i] != expected[*i]) {
-            None => Ok(()),
-            Some(i) => Err(format!(
-                "{what}: number {i} is {:?}, expected {:?}",
-                self.part()[i],
-                expected[i]
-            )),
+        let (first, last) = self.part().split_at(front.len());
+        if first == front && last == rest {
+            return Ok(());
         }
+        let expected = [front, rest].concat();
+        let other = (0..expected.len()).find(|i| self.part()[*i] != expected[*i]);
+        let place = other.expect("the two differ somewhere");
+        Err(format!(
+            "{what}: number {place} is {:?}, expected {:?}",
+            self.part()[place],
+            expected[place]
+        ))
+    }
+}
+
+impl Lent<u16> {
+    /// That the part begins with these numbers and has zeros behind them.
+    fn has_and_zeros(&self, what: &str, front: &[u16]) -> Result<(), String> {
+        self.holds(what, front, &vec![0; self.before.len() - front.len()])
     }
 }

@@ -1,5 +1,6 @@
 //! Random programs, texts and tables.
 
+use crate::evaluator::step::{step, Step};
 use crate::evaluator::text::{program_expression, put_expression, write_text, Expression};
 use crate::evaluator::tree::{application, fresh, guard, program_size, unification, Program, Term};
 use crate::evaluator::NODES;
@@ -14,6 +15,33 @@ pub fn sound_program(random: &mut Random) -> Program {
     let mut program = program(random, none);
     while program_size(&program) > NODES {
         program.pop();
+    }
+    program
+}
+
+/// A sound program after some steps.
+pub fn worked_program(random: &mut Random) -> Program {
+    let mut program = sound_program(random);
+    for _ in 0..random.between(1, 20) {
+        match step(&program) {
+            Step::To(_, _, next) if program_size(&next) <= NODES => program = next,
+            _ => break,
+        }
+    }
+    program
+}
+
+/// A sound program of about as many nodes as there may be: the threads of a smaller one over and over.
+pub fn large_program(random: &mut Random) -> Program {
+    let nodes = random.pick(&[500, 1000, NODES]);
+    let threads = worked_program(random);
+    let mut program = Vec::new();
+    for thread in threads.iter().cycle() {
+        program.push(thread.clone());
+        if program_size(&program) > nodes {
+            program.pop();
+            break;
+        }
     }
     program
 }

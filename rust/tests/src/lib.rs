@@ -2,8 +2,10 @@
 
 pub mod calls;
 pub mod compare;
+pub mod damage;
 pub mod evaluator;
 pub mod generate;
+pub mod lending;
 pub mod progress;
 pub mod random;
 pub mod short;

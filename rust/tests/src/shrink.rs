@@ -1,7 +1,10 @@
 //! Smaller calls that still differ.
 
 use crate::compare::{compare, Call};
+use crate::evaluator::column::column;
+use crate::evaluator::table::{decode, OwnTable};
 use crate::evaluator::text::{parse, put_expression, Expression};
+use crate::evaluator::{Lengths, NODES, TEXT};
 
 /// The smallest call found that still differs: parts are dropped as long as it does.
 pub fn shrink(call: Call) -> Call {
@@ -16,10 +19,11 @@ pub fn shrink(call: Call) -> Call {
 /// The call with a large output or work table and a limit of some steps.
 fn roomy(call: &Call) -> Call {
     let mut call = call.clone();
+    let large = Lengths::for_nodes(NODES);
     match &mut call {
-        Call::Read { out, .. } | Call::Step { out, .. } => *out = 4096,
-        Call::Write { out, .. } => *out = 24_576,
-        Call::Run { work, most, .. } => (*work, *most) = (4096, 60),
+        Call::Read { out, .. } | Call::Step { out, .. } => *out = large,
+        Call::Write { out, .. } => *out = TEXT,
+        Call::Run { work, most, .. } => (*work, *most) = (large, 60),
         Call::Standing { .. } | Call::Thread { .. } => {}
     }
     call
@@ -31,74 +35,156 @@ fn differs(call: &Call) -> bool {
 
 /// Calls that are a little smaller, the much smaller ones first.
 fn candidates(call: &Call) -> Vec<Call> {
+    let mut calls = with_smaller_input(call);
+    calls.extend(with_smaller_numbers(call));
+    calls
+}
+
+fn with_smaller_input(call: &Call) -> Vec<Call> {
     match call {
         Call::Read { text, out } => {
             let mut texts = without_parts(text, 1);
             texts.extend(without_members(text));
             texts.extend(without_brackets(text));
             let texts = texts.into_iter();
-            let mut calls: Vec<Call> = texts.map(|text| Call::Read { text, out: *out }).collect();
-            calls.extend(smaller_numbers(*out).map(|out| Call::Read {
-                text: text.clone(),
-                out,
-            }));
-            calls
+            texts.map(|text| Call::Read { text, out: *out }).collect()
         }
-        Call::Write { table, count, out } => on_table(table, *count, *out, |table, count, out| {
-            Call::Write { table, count, out }
-        }),
-        Call::Step { table, count, out } => on_table(table, *count, *out, |table, count, out| {
-            Call::Step { table, count, out }
-        }),
-        Call::Standing { table, count, k } => on_table(table, *count, *k, |table, count, k| {
-            Call::Standing { table, count, k }
-        }),
-        Call::Thread { table, count, k } => on_table(table, *count, *k, |table, count, k| {
-            Call::Thread { table, count, k }
-        }),
-        Call::Run {
-            table,
-            count,
-            work,
-            most,
-        } => {
-            let run = |table, count, work, most| Call::Run {
-                table,
-                count,
-                work,
-                most,
-            };
-            let mut calls = on_table(table, *count, *work, |table, count, work| {
-                run(table, count, work, *most)
-            });
-            let limits = smaller_numbers(*most as usize);
-            calls.extend(limits.map(|most| run(table.clone(), *count, *work, most as u32)));
-            calls
-        }
+        Call::Write { table, count, .. }
+        | Call::Step { table, count, .. }
+        | Call::Run { table, count, .. }
+        | Call::Standing { table, count, .. }
+        | Call::Thread { table, count, .. } => smaller_tables(table, *count)
+            .into_iter()
+            .map(|(table, count)| with_table(call, table, count))
+            .collect(),
     }
 }
 
-/// The calls with fewer nodes, with a subtree made a constructor, with a shorter tail, with a smaller last number.
-fn on_table(
-    table: &[u16],
-    count: usize,
-    last: usize,
-    make: impl Fn(Vec<u16>, usize, usize) -> Call,
-) -> Vec<Call> {
-    let nodes = count.min(table.len() / 2);
-    let (program, tail) = table.split_at(2 * nodes);
+fn with_table(call: &Call, new: OwnTable, nodes: usize) -> Call {
+    let mut call = call.clone();
+    match &mut call {
+        Call::Read { .. } => {}
+        Call::Write { table, count, .. }
+        | Call::Step { table, count, .. }
+        | Call::Run { table, count, .. }
+        | Call::Standing { table, count, .. }
+        | Call::Thread { table, count, .. } => (*table, *count) = (new, nodes),
+    }
+    call
+}
+
+/// The call with a smaller length, limit or thread number.
+fn with_smaller_numbers(call: &Call) -> Vec<Call> {
     let mut calls = Vec::new();
+    let mut add = |change: &dyn Fn(&mut Call)| {
+        let mut call = call.clone();
+        change(&mut call);
+        calls.push(call);
+    };
+    match call {
+        Call::Read { out, .. } | Call::Step { out, .. } | Call::Run { work: out, .. } => {
+            for smaller in smaller_lengths(*out) {
+                add(&|call| match call {
+                    Call::Read { out, .. }
+                    | Call::Step { out, .. }
+                    | Call::Run { work: out, .. } => *out = smaller,
+                    _ => {}
+                });
+            }
+        }
+        Call::Write { out: number, .. }
+        | Call::Standing { k: number, .. }
+        | Call::Thread { k: number, .. } => {
+            for smaller in smaller_numbers(*number) {
+                add(&|call| match call {
+                    Call::Write { out: number, .. }
+                    | Call::Standing { k: number, .. }
+                    | Call::Thread { k: number, .. } => *number = smaller,
+                    _ => {}
+                });
+            }
+        }
+    }
+    if let Call::Run { most, .. } = call {
+        for smaller in smaller_numbers(*most as usize) {
+            add(&|call| {
+                if let Call::Run { most, .. } = call {
+                    *most = smaller as u32;
+                }
+            });
+        }
+    }
+    calls
+}
+
+fn smaller_lengths(lengths: Lengths) -> Vec<Lengths> {
+    let numbers = smaller_numbers(lengths.numbers).map(|numbers| Lengths { numbers, ..lengths });
+    let columns = smaller_numbers(lengths.column).map(|column| Lengths { column, ..lengths });
+    numbers.chain(columns).collect()
+}
+
+/// The tables with fewer nodes, with a subtree made a constructor, with a shorter tail, with fewer faults in the column.
+fn smaller_tables(table: &OwnTable, count: usize) -> Vec<(OwnTable, usize)> {
+    let nodes = count.min(table.numbers.len() / 2);
+    let (program, tail) = table.numbers.split_at(2 * nodes);
+    let right = right_column(&table.numbers, count);
+    let mut tables = Vec::new();
     let mut shorter = without_parts(program, 2);
     shorter.extend(without_subtrees(program));
     for program in shorter {
         let fewer = count - (nodes - program.len() / 2);
-        calls.push(make([&program, tail].concat(), fewer, last));
+        let numbers = [&program, tail].concat();
+        let column = match (&right, right_column(&numbers, fewer)) {
+            (Some(old), Some(new)) => with_same_faults(&table.column, old, new),
+            _ => table.column.clone(),
+        };
+        tables.push((OwnTable { numbers, column }, fewer));
     }
-    for tail in without_parts(tail, 1) {
-        calls.push(make([program, &tail].concat(), count, last));
+    for length in smaller_numbers(tail.len()) {
+        let numbers = table.numbers[..2 * nodes + length].to_vec();
+        let column = table.column.clone();
+        tables.push((OwnTable { numbers, column }, count));
     }
-    calls.extend(smaller_numbers(last).map(|last| make(table.to_vec(), count, last)));
-    calls
+    for column in smaller_columns(&table.column, right.as_deref().unwrap_or(&[])) {
+        let numbers = table.numbers.clone();
+        tables.push((OwnTable { numbers, column }, count));
+    }
+    tables
+}
+
+/// The column of the program that a table holds, if it holds one.
+fn right_column(numbers: &[u16], count: usize) -> Option<Vec<u16>> {
+    decode(numbers, count).map(|program| column(&program))
+}
+
+/// A right column with the faults that another has against its own right one: wrong entries, missing ones, numbers behind.
+fn with_same_faults(given: &[u16], right: &[u16], mut new: Vec<u16>) -> Vec<u16> {
+    for (place, entry) in new.iter_mut().enumerate() {
+        if let (Some(wrong), Some(right)) = (given.get(place), right.get(place)) {
+            if wrong != right {
+                *entry = *wrong;
+            }
+        }
+    }
+    let missing = right.len().saturating_sub(given.len());
+    new.truncate(new.len().saturating_sub(missing));
+    new.extend(given.iter().skip(right.len()));
+    new
+}
+
+/// The column with a shorter tail, or with one wrong entry made right.
+fn smaller_columns(given: &[u16], right: &[u16]) -> Vec<Vec<u16>> {
+    let (front, tail) = given.split_at(right.len().min(given.len()));
+    let lengths = smaller_numbers(tail.len());
+    let mut columns: Vec<Vec<u16>> = lengths
+        .map(|length| given[..front.len() + length].to_vec())
+        .collect();
+    for place in (0..front.len()).filter(|i| front[*i] != right[*i]) {
+        let mut column = given.to_vec();
+        column[place] = right[place];
+        columns.push(column);
+    }
+    columns
 }
 
 /// The items without one part, in halves, quarters and so on down to `unit` items.
@@ -193,7 +279,9 @@ fn subtree_end(program: &[u16], start: usize) -> Option<usize> {
     Some(place)
 }
 
+/// The number without all of it, without a half, a quarter and so on.
 fn smaller_numbers(number: usize) -> impl Iterator<Item = usize> {
-    let tries = [0, number / 2, number.saturating_sub(1)];
-    tries.into_iter().filter(move |n| *n < number)
+    let parts = std::iter::successors(Some(number), |part| Some(part / 2));
+    let parts = parts.take_while(|part| *part > 0);
+    parts.map(move |part| number - part)
 }

@@ -2,27 +2,38 @@
 
 use mespindro::{Move, Reason, Refusal, Rule, Standing, Stop};
 use mespindro_tests::evaluator::counts;
+use mespindro_tests::evaluator::table::OwnTable;
 
-/// The table of `((g c1 c2))`, 5 nodes.
+/// The table of `((g c1 c2))`, 5 nodes, and its column.
 const G: [u16; 10] = [1, 0, 9, 0, 4, 1, 4, 2, 0, 0];
+const G_COLUMN: [u16; 5] = [5, 3, 1, 1, 1];
 
-fn with(more: &[u16]) -> Vec<u16> {
-    [&G, more].concat()
+/// Memory that holds these numbers, and a column.
+fn memory(numbers: &[u16], column: &[u16]) -> OwnTable {
+    OwnTable {
+        numbers: numbers.to_vec(),
+        column: column.to_vec(),
+    }
 }
 
-/// Runs and compares the answer and both tables.
+/// That program with more numbers behind it and behind its column.
+fn with(numbers: &[u16], column: &[u16]) -> OwnTable {
+    memory(&[&G, numbers].concat(), &[&G_COLUMN, column].concat())
+}
+
+/// Runs and compares the answer and both tables with their columns.
 fn run(
-    (table, count): (&[u16], usize),
-    work: &[u16],
+    (table, count): (&OwnTable, usize),
+    work: &OwnTable,
     most: u32,
     expected: Result<Stop, Refusal>,
-    (table_after, work_after): (&[u16], &[u16]),
+    (table_after, work_after): (&OwnTable, &OwnTable),
 ) {
-    let (mut table, mut work) = (table.to_vec(), work.to_vec());
-    let got = mespindro::run(&mut table, count, &mut work, most);
+    let (mut table, mut work) = (table.clone(), work.clone());
+    let got = mespindro::run(table.lent_mut(), count, work.lent_mut(), most);
     assert_eq!(got, expected);
-    assert_eq!(table, table_after);
-    assert_eq!(work, work_after);
+    assert_eq!(table, *table_after);
+    assert_eq!(work, *work_after);
 }
 
 fn stop(reason: Reason, nodes: usize, rules: &[Rule]) -> Result<Stop, Refusal> {
@@ -36,70 +47,92 @@ fn stop(reason: Reason, nodes: usize, rules: &[Rule]) -> Result<Stop, Refusal> {
 
 #[test]
 fn accepted_runs_leave_zeros() {
-    let b1 = with(&[77]);
-    let end = [1, 0, 4, 2, 0, 0, 0, 0, 0, 0, 0, 0];
+    let b1 = with(&[77], &[66]);
+    let b1_work = memory(&[5; 11], &[5; 7]);
+    let zeros = memory(&[0; 11], &[0; 7]);
+    let end = memory(&[1, 0, 4, 2, 0, 0, 0, 0, 0, 0, 0], &[3, 1, 1, 0, 0, 0]);
     let ended = stop(Reason::Ended, 3, &[Rule::Guard]);
-    run((&b1, 5), &[5; 11], 10, ended, (&end[..11], &[0; 11]));
+    run((&b1, 5), &b1_work, 10, ended, (&end, &zeros));
     let steps = stop(Reason::Steps, 5, &[]);
-    run((&b1, 5), &[5; 11], 0, steps, (&with(&[0]), &[0; 11]));
-    run((&with(&[7, 7]), 5), &[5; 10], 10, ended, (&end, &[0; 10]));
+    run((&b1, 5), &b1_work, 0, steps, (&with(&[0], &[0]), &zeros));
+    // columns that are shorter and longer than their tables hold
+    let b5 = with(&[7, 7], &[]);
+    let b5_work = memory(&[5; 10], &[5; 20]);
+    let zeros = memory(&[0; 10], &[0; 20]);
+    let end = memory(&[1, 0, 4, 2, 0, 0, 0, 0, 0, 0, 0, 0], &[3, 1, 1, 0, 0]);
+    run((&b5, 5), &b5_work, 10, ended, (&end, &zeros));
+    let b6 = memory(&[0, 0, 7], &[1, 7, 7, 7]);
+    let b6_work = memory(&[5; 3], &[5; 1]);
     let none = stop(Reason::Ended, 1, &[]);
-    run((&[0, 0, 7], 1), &[5; 3], 0, none, (&[0, 0, 0], &[0; 3]));
+    let after = (
+        &memory(&[0, 0, 0], &[1, 0, 0, 0]),
+        &memory(&[0; 3], &[0; 1]),
+    );
+    run((&b6, 1), &b6_work, 0, none, after);
     println!("B1, B2, B5, B6: 4 cases");
 }
 
 #[test]
 fn refused_runs_change_nothing() {
-    let b3 = with(&[77]);
-    let no_room = Err(Refusal::NoRoom);
-    run((&b3, 5), &[5; 9], 10, no_room, (&b3, &[5; 9]));
-    let b4 = &G[..9];
-    run(
-        (b4, 5),
-        &[5; 20],
-        10,
-        Err(Refusal::NoProgram),
-        (b4, &[5; 20]),
-    );
-    run((&[0, 0, 7], 1), &[5], 10, no_room, (&[0, 0, 7], &[5]));
-    let b8 = [1, 0, 2, 0, 0, 0];
-    run((&b8, 3), &[], 10, Err(Refusal::NoBinder), (&b8, &[]));
-    println!("B3, B4, B7, B8: 4 cases");
+    let kept = |table: &OwnTable, count, work: OwnTable, refusal| {
+        run((table, count), &work, 10, Err(refusal), (table, &work));
+    };
+    let b3 = with(&[77], &[66]);
+    kept(&b3, 5, memory(&[5; 9], &[5; 20]), Refusal::NoRoom);
+    kept(&b3, 5, memory(&[5; 20], &[5; 4]), Refusal::NoRoom);
+    let b4 = memory(&G[..9], &G_COLUMN);
+    kept(&b4, 5, memory(&[5; 20], &[5; 20]), Refusal::NoProgram);
+    let b7 = memory(&[0, 0, 7], &[1]);
+    kept(&b7, 1, memory(&[5], &[5]), Refusal::NoRoom);
+    let b8 = memory(&[1, 0, 2, 0, 0, 0], &[3, 1, 1]);
+    kept(&b8, 3, memory(&[], &[]), Refusal::NoBinder);
+    let short = memory(&G, &G_COLUMN[..4]);
+    kept(&short, 5, memory(&[5; 20], &[5; 20]), Refusal::WrongColumn);
+    println!("B3, B4, B7, B8, and two of columns: 6 cases");
+}
+
+/// A step of `((g c1 c2))` into memory of 5s that then holds this.
+fn step(expected: Result<Move, Refusal>, numbers: &[u16], column: &[u16]) {
+    let mut out = memory(&vec![5; numbers.len()], &vec![5; column.len()]);
+    let table = with(&[], &[]);
+    assert_eq!(mespindro::step(table.lent(), 5, out.lent_mut()), expected);
+    assert_eq!(out, memory(numbers, column));
 }
 
 #[test]
 fn a_step_fills_the_front_of_its_output() {
-    let made = Move {
+    let made = Ok(Move {
         nodes: 3,
         rule: Rule::Guard,
         thread: 0,
-    };
-    let cases: [(Result<Move, Refusal>, &[u16]); 3] = [
-        (Ok(made), &[1, 0, 4, 2, 0, 0, 5, 5]),
-        (Ok(made), &[1, 0, 4, 2, 0, 0, 5]),
-        (Err(Refusal::NoRoom), &[5; 5]),
-    ];
-    for (expected, after) in cases {
-        let mut out = vec![5; after.len()];
-        assert_eq!(mespindro::step(&G, 5, &mut out), expected);
-        assert_eq!(out, after);
-    }
-    println!("B9, B10, B11: 3 cases");
+    });
+    let front = [1, 0, 4, 2, 0, 0, 5, 5];
+    step(made, &front, &[3, 1, 1]);
+    step(made, &front[..7], &[3, 1, 1, 5, 5, 5]);
+    step(made, &front[..6], &[3, 1, 1, 5]);
+    let no_room = Err(Refusal::NoRoom);
+    step(no_room, &[5; 5], &[5; 3]);
+    step(no_room, &[5; 8], &[5; 2]);
+    println!("B9, B10, B11, and two of columns: 5 cases");
 }
 
 #[test]
 fn threads() {
-    assert_eq!(mespindro::standing(&G, 5, 0), Ok(Standing::Open));
-    let part = mespindro::thread(&G, 5, 0);
+    let own = with(&[], &[]);
+    let table = own.lent();
+    assert_eq!(mespindro::standing(table, 5, 0), Ok(Standing::Open));
+    let part = mespindro::thread(table, 5, 0);
     assert_eq!(part, [9, 0, 4, 1, 4, 2]);
-    assert_eq!(part.as_ptr(), G[2..].as_ptr(), "the caller's own numbers");
+    let own_part = own.numbers[2..].as_ptr();
+    assert_eq!(part.as_ptr(), own_part, "the caller's own numbers");
     for k in [1, usize::MAX] {
-        assert_eq!(mespindro::standing(&G, 5, k), Err(Refusal::NoThread));
-        assert!(mespindro::thread(&G, 5, k).is_empty());
+        assert_eq!(mespindro::standing(table, 5, k), Err(Refusal::NoThread));
+        assert!(mespindro::thread(table, 5, k).is_empty());
     }
     // thread 0 is coherent, thread 1 is not
     let b14 = [1, 0, 6, 0, 0, 0, 1, 0, 8, 0, 6, 0, 1, 0, 2, 1, 0, 0, 0, 0];
-    let standing = mespindro::standing(&b14, 10, 0);
+    let b14 = memory(&b14, &[10, 2, 1, 7, 5, 4, 3, 1, 1, 1]);
+    let standing = mespindro::standing(b14.lent(), 10, 0);
     assert_eq!(standing, Err(Refusal::Incoherent));
     println!("B12, B13, B14: 4 cases");
 }

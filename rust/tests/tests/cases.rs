@@ -3,10 +3,10 @@
 use mespindro::{Counts, Move, Reason, Refusal, Rule, Standing, Stop};
 use mespindro_tests::calls::on_program;
 use mespindro_tests::compare::{Call, Tally};
-use mespindro_tests::evaluator::table::write_table;
+use mespindro_tests::evaluator::table::OwnTable;
 use mespindro_tests::evaluator::text::write_text;
-use mespindro_tests::evaluator::tree::{program_size, Program};
-use mespindro_tests::evaluator::{self, NODES, TEXT};
+use mespindro_tests::evaluator::tree::Program;
+use mespindro_tests::evaluator::{self, Lengths, NODES, TEXT};
 use mespindro_tests::on_big_stack;
 use mespindro_tests::random::Random;
 use mespindro_tests::short;
@@ -127,18 +127,33 @@ fn single(content: &str) -> Result<Move, Refusal> {
     }
 }
 
-/// Reads the program's text and runs it by the library, in tables of the case's room and in one of them larger.
+/// Lengths of a table and a work table whose room is so many nodes: by all four, and by one alone.
+fn lengths(room: usize) -> [(Lengths, Lengths); 5] {
+    let (exact, wide) = (Lengths::for_nodes(room), Lengths::new(5000, 2500));
+    let (by_table, by_column) = (
+        Lengths::new(exact.numbers + 1, wide.column),
+        Lengths::new(wide.numbers, exact.column),
+    );
+    [
+        (exact, exact),
+        (by_table, wide),
+        (by_column, wide),
+        (wide, by_table),
+        (wide, by_column),
+    ]
+}
+
+/// Reads the program's text and runs it by the library, in the case's room.
 fn by_library(case: &Case) {
     let name = &case.name;
-    let exact = 2 * case.room;
-    for (table_length, work_length) in [(exact, exact), (exact, 5000), (5000, exact + 1)] {
-        let mut table = vec![7; table_length];
-        let count = mespindro::read(&write_text(&case.program), &mut table);
-        assert_eq!(count, Ok(program_size(&case.program)), "{name}");
-        let count = count.unwrap();
-        assert_eq!(table[..2 * count], write_table(&case.program), "{name}");
-        let mut work = vec![7; work_length];
-        let got = mespindro::run(&mut table, count, &mut work, case.limit);
+    let exact = OwnTable::of(&case.program);
+    for (lengths, work_lengths) in lengths(case.room) {
+        let mut table = OwnTable::empty(lengths);
+        let count = mespindro::read(&write_text(&case.program), table.lent_mut());
+        assert_eq!(count, Ok(exact.nodes()), "{name}");
+        begins_with(name, &table, &exact);
+        let mut work = OwnTable::empty(work_lengths);
+        let got = mespindro::run(table.lent_mut(), exact.nodes(), work.lent_mut(), case.limit);
         let stop = got.unwrap_or_else(|refusal| panic!("{name}: {refusal:?}"));
         check_stop(case, &stop, &table);
         check_counts(case, &stop);
@@ -147,13 +162,19 @@ fn by_library(case: &Case) {
         assert_eq!(&rules_told(&case.program, case.steps), rules, "{name}");
     }
     if let Some(single) = case.single {
-        let table = write_table(&case.program);
-        let step = mespindro::step(&table, table.len() / 2, &mut [7; 4096]);
+        let mut out = OwnTable::empty(Lengths::FULL);
+        let step = mespindro::step(exact.lent(), exact.nodes(), out.lent_mut());
         assert_eq!(step, single, "{name}");
     }
 }
 
-fn check_stop(case: &Case, stop: &Stop, table: &[u16]) {
+/// The front of the memory is the table and its column.
+fn begins_with(name: &str, memory: &OwnTable, table: &OwnTable) {
+    assert!(memory.numbers.starts_with(&table.numbers), "{name}");
+    assert!(memory.column.starts_with(&table.column), "{name}");
+}
+
+fn check_stop(case: &Case, stop: &Stop, table: &OwnTable) {
     let name = &case.name;
     assert_eq!(
         (stop.reason, stop.steps),
@@ -161,20 +182,17 @@ fn check_stop(case: &Case, stop: &Stop, table: &[u16]) {
         "{name}"
     );
     if let Some(end) = &case.end {
-        assert_eq!(table[..2 * stop.nodes], write_table(end), "{name}");
+        begins_with(name, table, &OwnTable::of(end));
     }
     if let Some(nodes) = case.nodes {
         assert_eq!(stop.nodes, nodes, "{name}");
     }
     if let Some(standings) = &case.standings {
         for (k, standing) in standings.iter().enumerate() {
-            assert_eq!(
-                mespindro::standing(table, stop.nodes, k),
-                Ok(*standing),
-                "{name}"
-            );
+            let got = mespindro::standing(table.lent(), stop.nodes, k);
+            assert_eq!(got, Ok(*standing), "{name}");
         }
-        let past = mespindro::standing(table, stop.nodes, standings.len());
+        let past = mespindro::standing(table.lent(), stop.nodes, standings.len());
         assert_eq!(past, Err(Refusal::NoThread), "{name}");
     }
     if let (1, Some(end)) = (case.steps, &case.end) {
@@ -182,7 +200,8 @@ fn check_stop(case: &Case, stop: &Stop, table: &[u16]) {
     }
     // a single step of an ended program is refused, whatever the output
     if stop.reason == Reason::Ended {
-        let step = mespindro::step(table, stop.nodes, &mut []);
+        let mut none = OwnTable::empty(Lengths::NONE);
+        let step = mespindro::step(table.lent(), stop.nodes, none.lent_mut());
         assert_eq!(step, Err(Refusal::Finished), "{name}");
     }
 }
@@ -200,11 +219,12 @@ fn check_counts(case: &Case, stop: &Stop) {
 
 /// The rules that the library tells of so many single steps, one after another.
 fn rules_told(program: &Program, steps: u32) -> Vec<Rule> {
-    let (mut table, mut out) = (write_table(program), vec![7; 2 * NODES]);
-    let mut count = table.len() / 2;
+    let (mut table, mut out) = (OwnTable::of(program), OwnTable::empty(Lengths::FULL));
+    let mut count = table.nodes();
     let mut rules = Vec::new();
     for _ in 0..steps {
-        let made = mespindro::step(&table, count, &mut out).expect("the run has made this step");
+        let made = mespindro::step(table.lent(), count, out.lent_mut());
+        let made = made.expect("the run has made this step");
         rules.push(made.rule);
         count = made.nodes;
         table = out.clone();
@@ -214,12 +234,18 @@ fn rules_told(program: &Program, steps: u32) -> Vec<Rule> {
 
 /// That the call of one step gives what a run of one step gives.
 fn single_step(name: &str, program: &Program, end: &Program) {
-    let (table, end) = (write_table(program), write_table(end));
-    for length in [end.len(), end.len() + 1, 4200] {
-        let mut out = vec![7; length];
-        let step = mespindro::step(&table, table.len() / 2, &mut out);
-        assert_eq!(step.map(|made| made.nodes), Ok(end.len() / 2), "{name}");
-        assert_eq!(out[..end.len()], end, "{name}");
+    let (table, end) = (OwnTable::of(program), OwnTable::of(end));
+    let (numbers, column) = (end.numbers.len(), end.column.len());
+    for lengths in [
+        Lengths::new(numbers, column),
+        Lengths::new(numbers + 1, column + 1),
+        Lengths::new(4200, column),
+        Lengths::new(numbers, 4200),
+    ] {
+        let mut out = OwnTable::empty(lengths);
+        let step = mespindro::step(table.lent(), table.nodes(), out.lent_mut());
+        assert_eq!(step.map(|made| made.nodes), Ok(end.nodes()), "{name}");
+        begins_with(name, &out, &end);
     }
 }
 
@@ -343,15 +369,15 @@ fn numbers<'a>(words: impl Iterator<Item = &'a str>) -> Vec<u16> {
 }
 
 /// That reading the text answers what the word says.
-fn reads(name: &str, text: &[u8], out: usize, outcome: &str) {
-    let mut table = vec![7; out];
-    let got = mespindro::read(text, &mut table);
+fn reads(name: &str, text: &[u8], out: Lengths, outcome: &str) {
+    let mut table = OwnTable::empty(out);
+    let got = mespindro::read(text, table.lent_mut());
     match outcome.strip_prefix("read:") {
         Some(nodes) => {
             let (nodes, numbers) = nodes.split_once('=').unwrap_or((nodes, ""));
             assert_eq!(got, Ok(nodes.parse().expect("nodes")), "{name}");
             if !numbers.is_empty() {
-                assert_eq!(table[..2 * got.unwrap()], listed(numbers), "{name}");
+                assert_eq!(table.numbers[..2 * got.unwrap()], listed(numbers), "{name}");
             }
         }
         None if outcome == "one" => {
@@ -369,11 +395,19 @@ fn texts() {
         let mut words = line.splitn(4, ' ');
         let mut word = || words.next().unwrap_or("");
         let (name, out, outcome) = (word(), word(), word());
-        let (text, out) = (written_out(word()), out.parse().expect("a length"));
+        let (text, out) = (written_out(word()), out.parse::<usize>().expect("a length"));
         on_big_stack(|| {
-            reads(name, &text, out, outcome);
-            let call = Call::Read { text, out };
-            Tally::default().compare(&call).expect(name);
+            // a column as long as the table asks for; one that is long enough for anything; the two the other way round
+            for out in [
+                Lengths::new(out, out / 2),
+                Lengths::new(out, NODES),
+                Lengths::new(2 * NODES + 1, out / 2),
+            ] {
+                reads(name, &text, out, outcome);
+                let text = text.clone();
+                let call = Call::Read { text, out };
+                Tally::default().compare(&call).expect(name);
+            }
         });
         number += 1;
     }
@@ -388,7 +422,7 @@ fn tables() {
         let name = words.next().expect("a name");
         let count = words.next().expect("a count").parse().expect("a count");
         let outcome = words.next().expect("an outcome");
-        every_call_answers(name, &numbers(words), count, outcome);
+        on_big_stack(|| every_call_answers(name, &numbers(words), count, outcome));
         number += 1;
     }
     println!("tables.txt: {number} cases");
@@ -403,9 +437,9 @@ fn writes() {
         let out = words.next().expect("a length").parse().expect("a length");
         let count = words.next().expect("a count").parse().expect("a count");
         let outcome = words.next().expect("an outcome");
-        let table = numbers(words);
+        let table = OwnTable::of_numbers(&numbers(words), count);
         let mut bytes = vec![7; out];
-        let got = mespindro::write(&table, count, &mut bytes);
+        let got = mespindro::write(table.lent(), count, &mut bytes);
         let got = got.map(|length| String::from_utf8_lossy(&bytes[..length]));
         let expected = match outcome.starts_with('(') {
             true => Ok(outcome.into()),
@@ -428,12 +462,13 @@ fn threads() {
         let count = words.next().expect("a count").parse().expect("a count");
         let parts = words.next().expect("the parts").split('|');
         let parts: Vec<Vec<u16>> = parts.filter(|p| *p != "-").map(listed).collect();
-        let table = numbers(words);
+        let table = OwnTable::of_numbers(&numbers(words), count);
         for (k, part) in parts.iter().enumerate() {
-            assert_eq!(mespindro::thread(&table, count, k), part, "{name}");
+            assert_eq!(mespindro::thread(table.lent(), count, k), part, "{name}");
         }
         for k in [parts.len(), usize::MAX] {
-            assert!(mespindro::thread(&table, count, k).is_empty(), "{name}");
+            let part = mespindro::thread(table.lent(), count, k);
+            assert!(part.is_empty(), "{name}");
         }
         number += 1;
     }
@@ -441,12 +476,14 @@ fn threads() {
 }
 
 /// Every call on the table refuses with the number, or none refuses it where the outcome is `-`.
-fn every_call_answers(name: &str, table: &[u16], count: usize, outcome: &str) {
-    let (mut run_table, mut work) = (table.to_vec(), vec![7; 4096]);
+fn every_call_answers(name: &str, numbers: &[u16], count: usize, outcome: &str) {
+    let own = OwnTable::of_numbers(numbers, count);
+    let (mut run_table, mut other) = (own.clone(), OwnTable::empty(Lengths::FULL));
+    let table = own.lent();
     let answers = [
         mespindro::write(table, count, &mut [7; TEXT]).err(),
-        mespindro::step(table, count, &mut [7; 4096]).err(),
-        mespindro::run(&mut run_table, count, &mut work, 9).err(),
+        mespindro::step(table, count, other.lent_mut()).err(),
+        mespindro::run(run_table.lent_mut(), count, other.lent_mut(), 9).err(),
         mespindro::standing(table, count, 0).err(),
     ];
     let part = mespindro::thread(table, count, 0);
@@ -454,7 +491,7 @@ fn every_call_answers(name: &str, table: &[u16], count: usize, outcome: &str) {
     for answer in answers {
         let number = answer.map_or(0, Refusal::number);
         match outcome {
-            "-" => assert!(![1, 6, 8].contains(&number), "{name}: refused {number}"),
+            "-" => assert!(![1, 6, 8, 14].contains(&number), "{name}: refused {number}"),
             _ => assert_eq!(answer, Some(refusal(outcome)), "{name}"),
         }
     }
@@ -462,9 +499,12 @@ fn every_call_answers(name: &str, table: &[u16], count: usize, outcome: &str) {
 
 /// What the program on standard input does with the calls; its own bytes are tested where it is built.
 fn report(input: &[u8]) -> Vec<u8> {
-    let (mut table, mut work) = (vec![0; 2 * NODES], vec![0; 2 * NODES]);
-    let run = mespindro::read(input, &mut table)
-        .and_then(|count| mespindro::run(&mut table, count, &mut work, 10_000));
+    let (mut table, mut work) = (
+        OwnTable::empty(Lengths::FULL),
+        OwnTable::empty(Lengths::FULL),
+    );
+    let run = mespindro::read(input, table.lent_mut())
+        .and_then(|count| mespindro::run(table.lent_mut(), count, work.lent_mut(), 10_000));
     let stop = match run {
         Ok(stop) => stop,
         Err(refusal) => {
@@ -479,7 +519,7 @@ fn report(input: &[u8]) -> Vec<u8> {
     };
     let steps = stop.steps.to_string();
     let mut text = vec![0; TEXT];
-    let length = mespindro::write(&table, stop.nodes, &mut text).expect("an end is written");
+    let length = mespindro::write(table.lent(), stop.nodes, &mut text).expect("an end is written");
     let head = format!("({reason}{}:{steps}", steps.len());
     [head.as_bytes(), &text[..length], b")"].concat()
 }

@@ -1,17 +1,24 @@
 //! The library against the evaluator, call by call, on random inputs of fixed seeds.
 
-use mespindro::Rule;
-use mespindro_tests::calls::{on_program, on_text, random_calls};
-use mespindro_tests::compare::{Call, Tally};
+use mespindro::{Reason, Refusal, Rule, Table};
+use mespindro_tests::calls::{on_damaged_column, on_program, on_text, random_calls};
+use mespindro_tests::compare::{self, Call, Outcome, Tally};
+use mespindro_tests::damage::Damage;
 use mespindro_tests::evaluator::step::{step, Step};
-use mespindro_tests::evaluator::tree::program_size;
-use mespindro_tests::generate;
-use mespindro_tests::on_big_stack;
+use mespindro_tests::evaluator::table::{write_table, OwnTable};
+use mespindro_tests::evaluator::tree::{application, fresh, program_size, Program, Term};
+use mespindro_tests::evaluator::{self, Lengths, NODES};
 use mespindro_tests::random::Random;
+use mespindro_tests::{generate, on_big_stack, short};
 use std::collections::BTreeMap;
 
 /// Compares the calls on `inputs` random inputs and prints how many there were.
-fn compare_many(name: &str, seed: u64, inputs: usize, make: fn(&mut Random) -> Vec<Call>) {
+fn compare_many(
+    name: &str,
+    seed: u64,
+    inputs: usize,
+    make: impl Fn(&mut Random) -> Vec<Call> + Sync,
+) -> Tally {
     let tally = on_big_stack(|| {
         let mut random = Random::new(seed);
         let mut tally = Tally::default();
@@ -25,32 +32,388 @@ fn compare_many(name: &str, seed: u64, inputs: usize, make: fn(&mut Random) -> V
         tally
     });
     println!("{name}: {inputs} inputs, {tally}");
+    tally
 }
 
 #[test]
 fn texts() {
-    compare_many("texts", 1, 30_000, |random| {
+    compare_many("texts", 1, 20_000, |random| {
         on_text(&generate::text(random))
     });
 }
 
 #[test]
 fn sound_programs() {
-    compare_many("sound programs", 2, 5_000, |random| {
+    compare_many("sound programs", 2, 3_500, |random| {
         on_program(&generate::sound_program(random), random)
     });
 }
 
 #[test]
 fn faulty_programs() {
-    compare_many("faulty programs", 3, 4_000, |random| {
+    compare_many("faulty programs", 3, 2_500, |random| {
         on_program(&generate::faulty_program(random), random)
     });
 }
 
 #[test]
 fn all_kinds_of_inputs() {
-    compare_many("all kinds", 4, 8_000, random_calls);
+    compare_many("all kinds", 4, 6_000, random_calls);
+}
+
+#[test]
+fn worked_programs() {
+    compare_many("worked programs", 5, 1_000, |random| {
+        on_program(&generate::worked_program(random), random)
+    });
+}
+
+#[test]
+fn large_programs() {
+    compare_many("large programs", 6, 20, |random| {
+        on_program(&generate::large_program(random), random)
+    });
+}
+
+/// A column that is wrong in any way gives 14, whatever else is wrong with the program.
+#[test]
+fn damaged_columns() {
+    for (seed, damage) in (100..).zip(Damage::ALL) {
+        let name = format!("{damage:?} columns");
+        let tally = compare_many(&name, seed, 1_000, |random| {
+            let program = match random.below(3) {
+                0 => generate::faulty_program(random),
+                1 => generate::worked_program(random),
+                _ => generate::sound_program(random),
+            };
+            on_damaged_column(&OwnTable::of(&program), damage, random)
+        });
+        // too many nodes are no program
+        let (none, wrong) = (tally.refused[1], tally.refused[14]);
+        assert!(wrong > 2_000 && none + wrong == tally.compared(), "{name}");
+    }
+}
+
+/// Each entry of a program, with each wrong number that a jump could take for right.
+#[test]
+fn every_entry() {
+    on_big_stack(|| {
+        let mut random = Random::new(9);
+        let mut tally = Tally::default();
+        for _ in 0..300 {
+            let program = generate::worked_program(&mut random);
+            let right = OwnTable::of(&program);
+            let count = right.column.len();
+            for place in (0..count).filter(|_| count < 150) {
+                let (entry, left) = (right.column[place], (count - place) as u16);
+                for wrong in [0, 1, entry - 1, entry + 1, left, left + 1, 65535] {
+                    let mut table = right.clone();
+                    table.column[place] = wrong;
+                    let call = Call::Standing { table, count, k: 0 };
+                    tally.compare(&call).unwrap();
+                }
+            }
+        }
+        println!("every entry: {tally}");
+    });
+}
+
+/// All columns of all shapes of up to five nodes, numbers up to one more than the count.
+#[test]
+fn every_small_column() {
+    let mut tally = Tally::default();
+    for program in (1..=5).flat_map(lists_of) {
+        let right = OwnTable::of(&program);
+        let count = right.column.len();
+        for length in 0..=count {
+            for column in columns(length, count as u16 + 1) {
+                let table = OwnTable {
+                    numbers: right.numbers.clone(),
+                    column,
+                };
+                let call = Call::Standing { table, count, k: 0 };
+                tally.compare(&call).unwrap();
+            }
+        }
+    }
+    println!("every small column: {tally}");
+    // one right column a shape: (), (c1), two of four nodes and four of five; () has no thread
+    assert_eq!((tally.accepted, tally.refused[10]), (7, 1));
+}
+
+/// All columns of a length with numbers up to a last.
+fn columns(length: usize, last: u16) -> Vec<Vec<u16>> {
+    if length == 0 {
+        return vec![Vec::new()];
+    }
+    let shorter = columns(length - 1, last);
+    let longer = |column: Vec<u16>| (0..=last).map(move |n| [&column[..], &[n]].concat());
+    shorter.into_iter().flat_map(longer).collect()
+}
+
+/// The programs of so many nodes, one of each shape.
+fn lists_of(nodes: usize) -> Vec<Program> {
+    if nodes < 2 {
+        return vec![Vec::new(); nodes];
+    }
+    let mut lists = Vec::new();
+    for size in 1..nodes - 1 {
+        for term in terms_of(size) {
+            for rest in lists_of(nodes - 1 - size) {
+                lists.push([vec![term.clone()], rest].concat());
+            }
+        }
+    }
+    lists
+}
+
+fn terms_of(nodes: usize) -> Vec<Term> {
+    if nodes == 1 {
+        return vec![Term::Constructor(1)];
+    }
+    let mut terms: Vec<Term> = terms_of(nodes - 1).into_iter().map(fresh).collect();
+    terms.extend(lists_of(nodes - 1).into_iter().map(Term::Abstraction));
+    for size in 1..nodes - 1 {
+        for left in terms_of(size) {
+            let rights = terms_of(nodes - 1 - size).into_iter();
+            terms.extend(rights.map(|right| application(left.clone(), right)));
+        }
+    }
+    terms
+}
+
+/// A program of 17 nodes whose run has 19 at most.
+const GROWS: &str = "((u (a (L 2 (b0)) (a (L 0 (b0 c1)) x1)) x2))";
+
+/// Each of a run's four lengths, around the program's size and the largest on its way.
+#[test]
+fn room_by_each_length() {
+    let right = OwnTable::of(&short::program(GROWS));
+    let mut tally = Tally::default();
+    let lengths = |numbers: std::ops::RangeInclusive<usize>| {
+        let all = numbers.flat_map(|numbers| (15..=20).map(move |column| (numbers, column)));
+        all.map(|(numbers, column)| Lengths { numbers, column })
+    };
+    for table in lengths(34..=40) {
+        for work in lengths(32..=40) {
+            let mut lent = right.clone();
+            lent.numbers.resize(table.numbers, 3);
+            lent.column.resize(table.column, 3);
+            let call = Call::Run {
+                table: lent,
+                count: 17,
+                work,
+                most: 60,
+            };
+            tally.compare(&call).unwrap();
+        }
+    }
+    println!("room by each length: {tally}");
+}
+
+/// The random runs stop by room for want of each of the four.
+#[test]
+fn random_runs_stop_by_each_length() {
+    let mut random = Random::new(10);
+    let mut times = [0; 4];
+    on_big_stack(|| {
+        for _ in 0..1_000 {
+            let program = generate::sound_program(&mut random);
+            for call in on_program(&program, &mut random) {
+                if let Some(which) = bounding_length(&call) {
+                    times[which] += 1;
+                }
+            }
+        }
+    });
+    println!("runs stop by room for want of numbers, column, work numbers, work column {times:?}");
+    assert!(times.iter().all(|times| *times > 100));
+}
+
+/// Which of its four lengths a run stops by, if it stops by one of them.
+fn bounding_length(call: &Call) -> Option<usize> {
+    let Call::Run {
+        table,
+        count,
+        work,
+        most,
+    } = call
+    else {
+        return None;
+    };
+    let (stop, _) = evaluator::run(table.lent(), *count, *work, *most)?.ok()?;
+    let nodes = [
+        table.numbers.len() / 2,
+        table.column.len(),
+        work.numbers / 2,
+        work.column,
+    ];
+    let least = *nodes.iter().min()?;
+    let bounded = stop.reason == Reason::Room && least < NODES;
+    nodes.iter().position(|n| *n == least).filter(|_| bounded)
+}
+
+#[test]
+fn columns_of_the_document() {
+    let cases: [(&str, &[u16]); 8] = [
+        ("()", &[1]),
+        ("((n (g (u b0 c1) b0)))", &[8, 6, 5, 3, 1, 1, 1, 1]),
+        ("((a (l (b0 c2)) c1))", &[10, 8, 6, 5, 1, 3, 1, 1, 1, 1]),
+        ("((L 0 (c1)) x0)", &[8, 4, 3, 1, 1, 3, 1, 1]),
+        ("((u c1 c2) c7)", &[7, 3, 1, 1, 3, 1, 1]),
+        ("(c1 (g c1 c2))", &[7, 1, 5, 3, 1, 1, 1]),
+        ("(c1 c2)", &[5, 1, 3, 1, 1]),
+        (
+            GROWS,
+            &[17, 15, 13, 4, 3, 1, 1, 8, 6, 5, 1, 3, 1, 1, 1, 1, 1],
+        ),
+    ];
+    for (program, column) in cases {
+        let table = OwnTable::of(&short::program(program));
+        assert_eq!(table.column, column, "{program}");
+        // the library takes no other
+        let told = compare::standing(table.lent(), column.len(), usize::MAX);
+        assert_eq!(
+            told,
+            Ok(Some(Outcome::Refused(Refusal::NoThread))),
+            "{program}"
+        );
+    }
+}
+
+/// What the evaluator answers, once the library has answered the same.
+fn step_in(
+    program: &str,
+    column: &[u16],
+    out: Lengths,
+) -> Result<(Rule, usize, Vec<u16>), Refusal> {
+    let mut table = OwnTable::of(&short::program(program));
+    let count = table.column.len();
+    table.column = column.to_vec();
+    compare::step(table.lent(), count, out).unwrap();
+    let told = evaluator::step(table.lent(), count, out).unwrap();
+    told.map(|(made, result)| (made.rule, made.thread, result.column))
+}
+
+#[test]
+fn steps_of_the_document() {
+    let any = Lengths::for_nodes(NODES);
+    let first = "((n (g (u b0 c1) b0)))";
+    assert_eq!(
+        step_in(first, &[8, 6, 5, 3, 1, 1, 1, 1], any),
+        Ok((Rule::Fresh, 0, vec![7, 5, 3, 1, 1, 1, 1]))
+    );
+    assert_eq!(
+        step_in("((u c1 c2) c7)", &[7, 3, 1, 1, 3, 1, 1], any),
+        Ok((Rule::Fail, 0, vec![3, 1, 1]))
+    );
+    let (guard, right) = ("(c1 (g c1 c2))", [7, 1, 5, 3, 1, 1, 1]);
+    let made = Ok((Rule::Guard, 1, vec![5, 1, 3, 1, 1]));
+    assert_eq!(step_in(guard, &right, any), made);
+    assert_eq!(step_in(guard, &right, Lengths::for_nodes(5)), made);
+    let short_column = Lengths { column: 4, ..any };
+    assert_eq!(step_in(guard, &right, short_column), Err(Refusal::NoRoom));
+    for wrong in [&[7, 1, 5, 3, 1, 1][..], &[7, 1, 5, 3, 1, 1, 2]] {
+        assert_eq!(step_in(guard, wrong, any), Err(Refusal::WrongColumn));
+    }
+    let none = Lengths::for_nodes(0);
+    assert_eq!(step_in("(c1)", &[3, 1, 1], none), Err(Refusal::Finished));
+}
+
+#[test]
+fn standings_of_the_document() {
+    let none = Vec::new();
+    let loose = vec![Term::Bound(0)];
+    let incoherent = short::program("((L 0 (c1)) (a c1 (a (L 0 (c1)) (L 0 (c2)))))");
+    let right = [18, 4, 3, 1, 1, 13, 11, 1, 9, 4, 3, 1, 1, 4, 3, 1, 1, 1];
+    let cases: [(&Program, &[u16], Refusal); 7] = [
+        (&none, &[1], Refusal::NoThread),
+        (&none, &[0], Refusal::WrongColumn),
+        (&none, &[], Refusal::WrongColumn),
+        (&none, &[1, 77], Refusal::NoThread),
+        (&loose, &[3, 1, 1], Refusal::NoBinder),
+        (&loose, &[3, 2, 1], Refusal::WrongColumn),
+        (&incoherent, &right, Refusal::Incoherent),
+    ];
+    for (program, column, refusal) in cases {
+        assert_eq!(first_standing(program, column), refusal, "{program:?}");
+    }
+    for place in 0..right.len() {
+        let mut column = right;
+        column[place] += 1;
+        let told = first_standing(&incoherent, &column);
+        assert_eq!(told, Refusal::WrongColumn, "entry {place}");
+    }
+    // where no program stands there is no subtree, and any column will do
+    let told = compare::standing(Table::new(&[1, 0], &[1]), 1, 0);
+    assert_eq!(told, Ok(Some(Outcome::Refused(Refusal::NoProgram))));
+}
+
+/// How both refuse the standing of a program's first thread.
+fn first_standing(program: &Program, column: &[u16]) -> Refusal {
+    let numbers = write_table(program);
+    let told = compare::standing(Table::new(&numbers, column), numbers.len() / 2, 0);
+    match told.unwrap() {
+        Some(Outcome::Refused(refusal)) => refusal,
+        other => panic!("{other:?}"),
+    }
+}
+
+#[test]
+fn reads_of_the_document() {
+    let lengths = |numbers, column| Lengths { numbers, column };
+    let cases: [(&[u8], Lengths, Outcome); 5] = [
+        (b"()", lengths(2, 1), Outcome::Accepted),
+        (b"()", lengths(2, 0), Outcome::Refused(Refusal::NoRoom)),
+        (b"()", lengths(1, 1), Outcome::Refused(Refusal::NoRoom)),
+        (
+            b"((1:n(1:L1:0((1:v1:1)))))",
+            lengths(0, 0),
+            Outcome::Refused(Refusal::Incoherent),
+        ),
+        (
+            b"((1:L1:0((1:v1:1))))",
+            lengths(0, 0),
+            Outcome::Refused(Refusal::NoBinder),
+        ),
+    ];
+    for (text, out, outcome) in cases {
+        let told = compare::read(text, out);
+        assert_eq!(told, Ok(Some(outcome)), "{}", text.escape_ascii());
+    }
+}
+
+/// A run of `GROWS` in tables of 37 nodes: the reason, the nodes and the steps.
+fn grown(column: usize, work: usize) -> Result<(Reason, usize, u32), Refusal> {
+    let mut table = OwnTable::of(&short::program(GROWS));
+    table.numbers.resize(74, 9);
+    table.column.resize(column, 9);
+    let work = Lengths {
+        numbers: 74,
+        column: work,
+    };
+    compare::run(table.lent(), 17, work, 1000).unwrap();
+    let told = evaluator::run(table.lent(), 17, work, 1000).unwrap();
+    told.map(|(stop, _)| (stop.reason, stop.nodes, stop.steps))
+}
+
+#[test]
+fn runs_of_the_document() {
+    assert_eq!(grown(16, 40), Err(Refusal::WrongColumn));
+    for column in [17, 18] {
+        assert_eq!(grown(column, 40), Ok((Reason::Room, 17, 0)));
+    }
+    assert_eq!(grown(19, 40), Ok((Reason::Ended, 5, 5)));
+    assert_eq!(grown(26, 16), Err(Refusal::NoRoom));
+    assert_eq!(grown(26, 19), Ok((Reason::Ended, 5, 5)));
+    let table = OwnTable::of(&short::program("((a (l (b0 c2)) c1))"));
+    let work = Lengths::for_nodes(10);
+    compare::run(table.lent(), 10, work, 1000).unwrap();
+    let (stop, end) = evaluator::run(table.lent(), 10, work, 1000)
+        .unwrap()
+        .unwrap();
+    assert_eq!((stop.reason, stop.steps), (Reason::Ended, 2));
+    assert_eq!(end.column, [5, 1, 3, 1, 1]);
 }
 
 /// The random programs have something to do: every rule is taken and every reason given, many times.

@@ -3,12 +3,12 @@
 use mespindro::{Move, Reason, Refusal, Rule, Stop};
 use mespindro_tests::calls::{on_program, on_text};
 use mespindro_tests::compare::{Call, Tally};
-use mespindro_tests::evaluator::table::write_table;
+use mespindro_tests::evaluator::table::{read_table, OwnTable};
 use mespindro_tests::evaluator::text::write_text;
 use mespindro_tests::evaluator::tree::{
     application, fresh, guard, program_size, unification, Program, Term,
 };
-use mespindro_tests::evaluator::{counts, NODES};
+use mespindro_tests::evaluator::{counts, Lengths, NODES};
 use mespindro_tests::on_big_stack;
 use mespindro_tests::random::Random;
 use mespindro_tests::short;
@@ -54,7 +54,8 @@ fn text_of_fresh(levels: usize, inner: &str) -> Vec<u8> {
 /// Reads the text into 4,096 numbers, and compares that and other lengths with the evaluator.
 fn reads(text: &[u8], expected: Result<usize, u16>) {
     on_big_stack(|| {
-        let got = mespindro::read(text, &mut [7; 4096]).map_err(Refusal::number);
+        let mut out = OwnTable::empty(Lengths::FULL);
+        let got = mespindro::read(text, out.lent_mut()).map_err(Refusal::number);
         assert_eq!(got, expected);
         for call in on_text(text) {
             Tally::default().compare(&call).unwrap();
@@ -204,14 +205,12 @@ fn long_runs() {
     ];
     on_big_stack(|| {
         for program in &programs {
-            let mut table = write_table(program);
-            let count = table.len() / 2;
+            let count = program_size(program);
             assert!(count <= NODES);
-            table.resize(4097, 9);
             let call = Call::Run {
-                table,
+                table: OwnTable::within(program, Lengths::new(4097, 2049)),
                 count,
-                work: 4096,
+                work: Lengths::FULL,
                 most: u32::MAX,
             };
             Tally::default().compare(&call).unwrap();
@@ -269,9 +268,7 @@ fn results_at_the_node_limit() {
         (twice(1022, more), Err(Refusal::TooManyNodes)),
     ];
     for (program, expected) in &cases {
-        let table = write_table(program);
-        let got = mespindro::step(&table, table.len() / 2, &mut [7; 4096]);
-        assert_eq!(got, *expected);
+        assert_eq!(step(program, Lengths::FULL), *expected);
     }
     compare_programs("results at the node limit", &cases.map(|(p, _)| p));
 }
@@ -284,14 +281,10 @@ fn context_copied_for_each_alternative() {
         let choice = application(Term::Allocated(0, body), constructor(0));
         vec![application(context, choice)]
     };
-    let (four, three) = (write_table(&with(4)), write_table(&with(3)));
-    assert_eq!((four.len(), three.len()), (2 * 694, 2 * 692));
-    assert_eq!(
-        mespindro::step(&four, 694, &mut []),
-        Err(Refusal::TooManyNodes)
-    );
-    let step = mespindro::step(&three, 692, &mut [0; 4096]);
-    assert_eq!(step, made(2047, Rule::Beta));
+    let (four, three) = (with(4), with(3));
+    assert_eq!((program_size(&four), program_size(&three)), (694, 692));
+    assert_eq!(step(&four, Lengths::NONE), Err(Refusal::TooManyNodes));
+    assert_eq!(step(&three, Lengths::FULL), made(2047, Rule::Beta));
     assert_eq!(run(&with(4)), (stop(Reason::Room, 694, &[]), with(4)));
     compare_programs("context copied (D106)", &[with(4), with(3)]);
 }
@@ -299,11 +292,11 @@ fn context_copied_for_each_alternative() {
 #[test]
 fn many_threads() {
     let threads: Program = (0..1023).map(constructor).collect();
-    let table = write_table(&threads);
+    let table = OwnTable::of(&threads);
     for k in [0, 1, 511, 1022] {
-        assert_eq!(mespindro::thread(&table, 2047, k), [4, k as u16]);
+        assert_eq!(mespindro::thread(table.lent(), 2047, k), [4, k as u16]);
     }
-    assert!(mespindro::thread(&table, 2047, 1023).is_empty());
+    assert!(mespindro::thread(table.lent(), 2047, 1023).is_empty());
     let mut last = threads.clone();
     last.splice(1021.., [fresh(Term::Bound(0))]);
     compare_programs("many threads", &[threads, last]);
@@ -339,12 +332,19 @@ fn two_towers(n: u16) -> Term {
 
 /// Runs 10,000 steps in 2,048 nodes, by the library alone.
 fn run(program: &Program) -> (Stop, Program) {
-    let mut table = write_table(program);
-    let count = table.len() / 2;
-    table.resize(4096, 7);
-    let stop = mespindro::run(&mut table, count, &mut [7; 4096], 10_000).expect("a run");
-    let end = mespindro_tests::evaluator::table::read_table(&table, stop.nodes);
+    let mut table = OwnTable::within(program, Lengths::FULL);
+    let mut work = OwnTable::empty(Lengths::FULL);
+    let count = program_size(program);
+    let stop = mespindro::run(table.lent_mut(), count, work.lent_mut(), 10_000).expect("a run");
+    let end = read_table(table.lent(), stop.nodes);
     (stop, end.expect("the end is a program"))
+}
+
+/// One step into an output of these lengths, by the library alone.
+fn step(program: &Program, out: Lengths) -> Result<Move, Refusal> {
+    let table = OwnTable::of(program);
+    let mut out = OwnTable::empty(out);
+    mespindro::step(table.lent(), table.nodes(), out.lent_mut())
 }
 
 fn stop(reason: Reason, nodes: usize, rules: &[Rule]) -> Stop {
@@ -381,9 +381,8 @@ fn values_that_no_memory_holds() {
             assert_eq!(run(&program), (ended, ok.clone()));
         }
         let kept = vec![application(one_tower(255), Term::Free(255))];
-        let table = write_table(&kept);
-        let step = mespindro::step(&table, 2047, &mut [7; 4096]);
-        assert_eq!(step, Err(Refusal::TooManyNodes));
+        assert_eq!(program_size(&kept), 2047);
+        assert_eq!(step(&kept, Lengths::FULL), Err(Refusal::TooManyNodes));
         assert_eq!(run(&kept), (stop(Reason::Room, 2047, &[]), kept.clone()));
     });
     println!("D97, D97b, D98: 5 programs");
@@ -392,30 +391,31 @@ fn values_that_no_memory_holds() {
 #[test]
 fn doubling_values_of_exact_size() {
     let kept = |n| vec![application(one_tower(n), Term::Free(n))];
-    let nine = write_table(&kept(9));
-    for out in [0, 1, 2050, 4096, 4098] {
-        let step = mespindro::step(&nine, 79, &mut vec![7; out]);
-        assert_eq!(step, Err(Refusal::TooManyNodes));
+    assert_eq!((program_size(&kept(9)), program_size(&kept(8))), (79, 71));
+    for (numbers, column) in [(0, 0), (1, 2048), (2050, 1025), (4096, 0), (4098, 2049)] {
+        let got = step(&kept(9), Lengths::new(numbers, column));
+        assert_eq!(got, Err(Refusal::TooManyNodes));
     }
     assert_eq!(run(&kept(9)), (stop(Reason::Room, 79, &[]), kept(9)));
-    let eight = write_table(&kept(8));
     let no_room = Err(Refusal::NoRoom);
     let unif = made(1025, Rule::Unif);
-    for (out, expected) in [(2048, no_room), (2049, no_room), (2050, unif)] {
-        let step = mespindro::step(&eight, 71, &mut vec![7; out]);
-        assert_eq!(step, expected);
+    for (numbers, column, expected) in [
+        (2048, 2048, no_room),
+        (2049, 1025, no_room),
+        (2050, 1024, no_room),
+        (4096, 1024, no_room),
+        (2050, 1025, unif),
+    ] {
+        assert_eq!(step(&kept(8), Lengths::new(numbers, column)), expected);
     }
     // 7 is asked of coherent threads only
     let mut incoherent = kept(9);
     incoherent.extend(short::program("((n (L 0 (b1))))"));
-    let table = write_table(&incoherent);
-    let step = mespindro::step(&table, table.len() / 2, &mut []);
-    assert_eq!(step, Err(Refusal::Incoherent));
+    assert_eq!(step(&incoherent, Lengths::NONE), Err(Refusal::Incoherent));
     reads(&write_text(&incoherent), Err(8));
     for finished in ["(c1)", "()"] {
-        let table = write_table(&short::program(finished));
-        let step = mespindro::step(&table, table.len() / 2, &mut []);
-        assert_eq!(step, Err(Refusal::Finished));
+        let got = step(&short::program(finished), Lengths::NONE);
+        assert_eq!(got, Err(Refusal::Finished));
     }
     let mut programs: Vec<Program> = (1..=11).map(kept).collect();
     programs.extend((1..=11).map(|n| vec![one_tower(n)]));
@@ -424,26 +424,32 @@ fn doubling_values_of_exact_size() {
 }
 
 #[test]
-fn tables_longer_than_a_program() {
+fn tables_and_columns_longer_than_a_program() {
     let program = short::program("((n (g (u b0 c1) b0)))");
-    let table = write_table(&program);
     let mut tally = Tally::default();
-    for length in [16, 17, 4096, 4097, 4098, 9000, 70_001] {
+    for numbers in [16, 17, 4096, 4097, 4098, 9000, 70_001] {
         for work in [0, 15, 16, 17, 4096, 4097, 70_001] {
-            for most in [0, 1, 2, 3, 4, u32::MAX] {
-                let mut table = table.clone();
-                table.resize(length, 3);
-                let call = Call::Run {
-                    table,
-                    count: 8,
-                    work,
-                    most,
-                };
-                tally.compare(&call).unwrap();
+            // each column as long as its table asks for, and one of them longer or shorter than that
+            for (column, work_column) in [
+                (numbers / 2, work / 2),
+                (70_001, work / 2),
+                (7, work / 2),
+                (8, 70_001),
+                (numbers / 2, 7),
+            ] {
+                for most in [0, 1, 2, 3, 4, u32::MAX] {
+                    let call = Call::Run {
+                        table: OwnTable::within(&program, Lengths::new(numbers, column)),
+                        count: 8,
+                        work: Lengths::new(work, work_column),
+                        most,
+                    };
+                    tally.compare(&call).unwrap();
+                }
             }
         }
     }
-    println!("tables longer than a program: {tally}");
+    println!("tables and columns longer than a program: {tally}");
 }
 
 #[test]
@@ -452,13 +458,13 @@ fn written_texts_are_read_again() {
     let programs = 5000;
     for _ in 0..programs {
         let program = mespindro_tests::generate::sound_program(&mut random);
-        let table = write_table(&program);
+        let table = OwnTable::of(&program);
         let mut text = vec![7; 24_576];
-        let length = mespindro::write(&table, table.len() / 2, &mut text).expect("a text");
+        let length = mespindro::write(table.lent(), table.nodes(), &mut text).expect("a text");
         assert_eq!(text[..length], write_text(&program));
-        let mut again = vec![7; table.len()];
-        let count = mespindro::read(&text[..length], &mut again);
-        assert_eq!(count, Ok(table.len() / 2));
+        let mut again = OwnTable::empty(Lengths::for_nodes(table.nodes()));
+        let count = mespindro::read(&text[..length], again.lent_mut());
+        assert_eq!(count, Ok(table.nodes()));
         assert_eq!(again, table);
     }
     println!("written texts are read again: {programs} programs");

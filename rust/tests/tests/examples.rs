@@ -1,5 +1,5 @@
 //! The examples, built and run: examples/place.c in C, rust/mespindro/examples/place.rs in Rust, and on Arm also the C one for x86-64 with the
-//! archive that the switch gets, under the toolchain's emulator. All print the same for every rule set.
+//! archive that the switch gets, under the toolchain's emulator. All print the same for every rule set. And the program in the header's comment.
 
 mod in_c;
 
@@ -101,4 +101,24 @@ fn place_for_the_switch() {
     if let Some(place) = in_c::for_the_switch("examples/place.c") {
         check(|file| place().arg(file).output().unwrap());
     }
+}
+
+/// The program at the end of the header's first comment, in a file.
+fn of_the_header() -> PathBuf {
+    let header = std::fs::read_to_string(root().join("include/mespindro.h")).unwrap();
+    let (comment, _) = header.split_once("*/").expect("a comment");
+    let lines = comment.lines().map(|line| line.trim_start_matches(" *"));
+    let program = lines.skip_while(|line| !line.ends_with("#include <mespindro.h>"));
+    let file = folder().join("of_the_header.c");
+    std::fs::write(&file, program.collect::<Vec<_>>().join("\n") + "\n").unwrap();
+    file
+}
+
+#[test]
+fn the_header_in_c() {
+    let source = of_the_header();
+    let program = in_c::for_this_machine(source.to_str().expect("a path"), "c99");
+    let output = program().output().unwrap();
+    assert!(output.status.success());
+    assert_eq!(String::from_utf8_lossy(&output.stdout), "4 2\n");
 }

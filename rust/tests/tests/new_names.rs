@@ -3,11 +3,11 @@
 
 use mespindro::Rule;
 use mespindro_tests::compare;
-use mespindro_tests::evaluator::table::{read_table, write_table};
+use mespindro_tests::evaluator::table::{read_table, OwnTable};
 use mespindro_tests::evaluator::tree::{
     application, fresh, program_size, term_size, Program, Term,
 };
-use mespindro_tests::evaluator::NODES;
+use mespindro_tests::evaluator::{Lengths, NODES};
 use mespindro_tests::on_big_stack;
 use mespindro_tests::random::Random;
 
@@ -49,16 +49,17 @@ fn body(kind: &Kind, names: &[u16]) -> Term {
 fn takes(kind: &Kind, elements: &Term, number: u16) {
     let before = vec![application(elements.clone(), (kind.asks)())];
     let after = vec![application(elements.clone(), (kind.element)(number))];
-    let (table, count) = (write_table(&before), program_size(&before));
-    let mut out = vec![7; 2 * NODES];
-    let made = mespindro::step(&table, count, &mut out).expect("a step");
+    let (table, mut out) = (OwnTable::of(&before), OwnTable::empty(Lengths::FULL));
+    let count = table.nodes();
+    let made = mespindro::step(table.lent(), count, out.lent_mut()).expect("a step");
     assert_eq!((made.rule, made.thread), (kind.rule, 0));
     assert_eq!(
-        read_table(&out, made.nodes).as_ref(),
+        read_table(out.lent(), made.nodes).as_ref(),
         Ok(&after),
         "{number} is the least"
     );
-    compare::step(&table, count, 2 * NODES).unwrap_or_else(|difference| panic!("{difference}"));
+    compare::step(table.lent(), count, Lengths::FULL)
+        .unwrap_or_else(|difference| panic!("{difference}"));
 }
 
 /// The names in three orders.
@@ -140,9 +141,9 @@ fn a_run_beside_many() {
     let program: Program = vec![application(structure(&VARIABLES, &names), nested)];
     let end = vec![application(structure(&VARIABLES, &names), Term::Free(700))];
     assert_eq!(program_size(&program), 1905);
-    let mut table = write_table(&program);
-    table.resize(2 * NODES, 0);
-    let stop = mespindro::run(&mut table, 1905, &mut vec![0; 2 * NODES], 10_000).expect("a run");
+    let mut table = OwnTable::within(&program, Lengths::FULL);
+    let mut work = OwnTable::empty(Lengths::FULL);
+    let stop = mespindro::run(table.lent_mut(), 1905, work.lent_mut(), 10_000).expect("a run");
     assert_eq!((stop.steps, stop.counts.fresh), (500, 500));
-    assert_eq!(read_table(&table, stop.nodes), Ok(end));
+    assert_eq!(read_table(table.lent(), stop.nodes), Ok(end));
 }

@@ -2,8 +2,10 @@
 
 use std::path::Path;
 
+use mespindro_tests::evaluator::table::OwnTable;
 use mespindro_tests::evaluator::text::write_text;
 use mespindro_tests::evaluator::tree::{application, fresh, guard, Program, Term};
+use mespindro_tests::evaluator::Lengths;
 use mespindro_tests::generate;
 use mespindro_tests::on_big_stack;
 use mespindro_tests::random::Random;
@@ -92,11 +94,11 @@ fn agreement_with_the_library() {
 
 fn compare_with_the_library() -> (usize, usize) {
     let mut random = Random::new(3);
-    let mut table = vec![0; 4096];
+    let mut table = OwnTable::empty(Lengths::FULL);
     let (mut accepted, mut refused) = (0, 0);
     for _ in 0..20_000 {
         let given = generate::text(&mut random);
-        let library = mespindro::read(&given, &mut table).is_ok();
+        let library = mespindro::read(&given, table.lent_mut()).is_ok();
         assert_eq!(
             from_text(&given).is_ok(),
             library,
@@ -117,7 +119,7 @@ const PUT: [&str; 13] = [
 #[test]
 fn changed_readable_forms() {
     let mut random = Random::new(4);
-    let mut table = vec![0; 4096];
+    let mut table = OwnTable::empty(Lengths::FULL);
     let (mut accepted, mut refused) = (0, 0);
     for made in random_programs(2000) {
         let readable = from_text(&write_text(&made)).unwrap();
@@ -128,7 +130,7 @@ fn changed_readable_forms() {
             match to_text(&changed) {
                 Ok(canonical) => {
                     accepted += 1;
-                    let read = mespindro::read(&canonical, &mut table);
+                    let read = mespindro::read(&canonical, table.lent_mut());
                     assert!(read.is_ok(), "{changed}");
                 }
                 Err(error) => {

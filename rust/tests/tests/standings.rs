@@ -2,8 +2,8 @@
 
 use mespindro::{Refusal, Standing};
 use mespindro_tests::compare;
-use mespindro_tests::evaluator::table::write_table;
-use mespindro_tests::evaluator::tree::{application, program_size, Program, Term};
+use mespindro_tests::evaluator::table::OwnTable;
+use mespindro_tests::evaluator::tree::{application, Program, Term};
 use mespindro_tests::evaluator::{self, NODES};
 use mespindro_tests::generate;
 use mespindro_tests::on_big_stack;
@@ -14,9 +14,10 @@ use Standing::{Answer, Open, Partial, Stuck};
 
 /// What the library says of a thread, and the evaluator too.
 fn standing(program: &Program, k: usize) -> Result<Standing, Refusal> {
-    let (table, count) = (write_table(program), program_size(program));
-    compare::standing(&table, count, k).unwrap_or_else(|difference| panic!("{difference}"));
-    mespindro::standing(&table, count, k)
+    let table = OwnTable::of(program);
+    let (table, count) = (table.lent(), table.nodes());
+    compare::standing(table, count, k).unwrap_or_else(|difference| panic!("{difference}"));
+    mespindro::standing(table, count, k)
 }
 
 /// Request 3's cases: the first thread's standing.
@@ -70,8 +71,9 @@ fn further_threads() {
     }
     let incoherent = short::program("((a c1 c2) (a (L 0 (c1)) (L 0 (c2))))");
     assert_eq!(standing(&incoherent, 0), Err(Refusal::Incoherent));
-    let loose = [1, 0, 4, 1, 1, 0, 2, 0, 0, 0];
-    assert_eq!(mespindro::standing(&loose, 5, 0), Err(Refusal::NoBinder));
+    let loose = OwnTable::of_numbers(&[1, 0, 4, 1, 1, 0, 2, 0, 0, 0], 5);
+    let told = mespindro::standing(loose.lent(), 5, 0);
+    assert_eq!(told, Err(Refusal::NoBinder));
 }
 
 /// A constructor applied to the parts one after another; or a list of the parts, whose tail is the last one.
@@ -98,13 +100,9 @@ fn one_unknown_anywhere() {
         for place in 0..length {
             for unknown in [Term::Free(0), closure.clone()] {
                 parts[place] = unknown;
-                let program = vec![chain(&parts, right)];
-                let (table, count) = (write_table(&program), program_size(&program));
-                assert_eq!(
-                    mespindro::standing(&table, count, 0),
-                    Ok(Partial),
-                    "argument {place}"
-                );
+                let table = OwnTable::of(&[chain(&parts, right)]);
+                let told = mespindro::standing(table.lent(), table.nodes(), 0);
+                assert_eq!(told, Ok(Partial), "argument {place}");
                 tried += 1;
             }
             parts[place] = Term::Constructor(2);
@@ -133,11 +131,12 @@ fn by_kinds() {
 }
 
 fn count_standings(program: &Program, told: &mut [usize; 4]) {
-    let (table, count) = (write_table(program), program_size(program));
+    let table = OwnTable::of(program);
+    let (table, count) = (table.lent(), table.nodes());
     for (k, thread) in program.iter().enumerate() {
-        let standing = mespindro::standing(&table, count, k).expect("a thread of a sound program");
+        let standing = mespindro::standing(table, count, k).expect("a thread of a sound program");
         assert_eq!(standing, evaluator::step::standing(thread));
-        let kinds = mespindro::thread(&table, count, k).iter().step_by(2);
+        let kinds = mespindro::thread(table, count, k).iter().step_by(2);
         let unknown = kinds.filter(|kind| [3, 6].contains(*kind)).count();
         assert_eq!(standing == Answer, standing != Open && unknown == 0);
         told[usize::from(standing.code()) - 1] += 1;

@@ -3,10 +3,10 @@
 
 mod in_c;
 use mespindro::{Counts, Move, Reason, Refusal, Rule, Standing, Stop};
-use mespindro_tests::evaluator::table::{read_table, write_table};
+use mespindro_tests::evaluator::table::{read_table, write_table, OwnTable};
 use mespindro_tests::evaluator::text::write_text;
 use mespindro_tests::evaluator::tree::{fresh, program_size, Program, Term};
-use mespindro_tests::evaluator::{counts, NODES};
+use mespindro_tests::evaluator::{counts, Lengths, NODES};
 use mespindro_tests::generate;
 use mespindro_tests::on_big_stack;
 use mespindro_tests::random::Random;
@@ -14,24 +14,26 @@ use mespindro_tests::short;
 
 /// The first step of the program, and the program after it.
 fn step(program: &Program) -> Result<(Move, Program), Refusal> {
-    let (table, mut out) = (write_table(program), vec![7; 2 * NODES]);
-    let made = mespindro::step(&table, table.len() / 2, &mut out)?;
-    let after = read_table(&out, made.nodes).expect("a step makes a program");
+    let (table, mut out) = (OwnTable::of(program), OwnTable::empty(Lengths::FULL));
+    let made = mespindro::step(table.lent(), table.nodes(), out.lent_mut())?;
+    let after = read_table(out.lent(), made.nodes).expect("a step makes a program");
     Ok((made, after))
 }
 
 /// Runs the program in tables of `room` nodes each, and answers its end too.
 fn run(program: &Program, room: usize, most: u32) -> (Stop, Program) {
-    let (mut table, mut work) = (write_table(program), vec![7; 2 * room]);
-    let count = table.len() / 2;
-    table.resize(2 * room, 7);
-    let stop = mespindro::run(&mut table, count, &mut work, most).expect("a run");
-    let end = read_table(&table, stop.nodes).expect("the end is a program");
+    let lengths = Lengths::for_nodes(room);
+    let mut table = OwnTable::within(program, lengths);
+    let mut work = OwnTable::empty(lengths);
+    let count = program_size(program);
+    let stop = mespindro::run(table.lent_mut(), count, work.lent_mut(), most).expect("a run");
+    let end = read_table(table.lent(), stop.nodes).expect("the end is a program");
     (stop, end)
 }
 
 fn standing(program: &Program, k: usize) -> Standing {
-    mespindro::standing(&write_table(program), program_size(program), k).expect("a thread")
+    let table = OwnTable::of(program);
+    mespindro::standing(table.lent(), table.nodes(), k).expect("a thread")
 }
 
 /// A program that uses each rule as often as its code says, behind two finished threads: 77 nodes.

@@ -1,11 +1,33 @@
-//! Tables: two numbers a node, kind and number, in preorder.
+//! Tables: two numbers a node, kind and number, in preorder, and a column beside them.
 
+use super::column::{column, is_column_of};
 use super::tree::{application, fresh, guard, unification, Program, Term};
 use super::NODES;
-use mespindro::Refusal;
+use mespindro::{Refusal, Table};
+
+/// A table and its column in memory of their own.
+#[derive(Clone, Debug, PartialEq, Eq)]
+pub struct OwnTable {
+    pub numbers: Vec<u16>,
+    pub column: Vec<u16>,
+}
+
+impl OwnTable {
+    /// Of a program, exactly.
+    pub fn of(program: &[Term]) -> OwnTable {
+        OwnTable {
+            numbers: write_table(program),
+            column: column(program),
+        }
+    }
+
+    pub fn lent(&self) -> Table<'_> {
+        Table::new(&self.numbers, &self.column)
+    }
+}
 
 /// The program of the first `count` nodes; `None` is refusal 1.
-fn decode(table: &[u16], count: usize) -> Option<Program> {
+pub fn decode(table: &[u16], count: usize) -> Option<Program> {
     if count == 0 || count > NODES || count > table.len() / 2 {
         return None;
     }
@@ -16,9 +38,13 @@ fn decode(table: &[u16], count: usize) -> Option<Program> {
     nodes.table.is_empty().then_some(program)
 }
 
-/// The program of a table, or refusal 1, 6 or 8.
-pub fn read_table(table: &[u16], count: usize) -> Result<Program, Refusal> {
-    super::check::checked(decode(table, count).ok_or(Refusal::NoProgram)?)
+/// The program of a table and its column, or refusal 1, 14, 6 or 8.
+pub fn read_table(table: Table<'_>, count: usize) -> Result<Program, Refusal> {
+    let program = decode(table.numbers, count).ok_or(Refusal::NoProgram)?;
+    if !is_column_of(table.column, &program) {
+        return Err(Refusal::WrongColumn);
+    }
+    super::check::checked(program)
 }
 
 /// The nodes that are not read yet.

@@ -10,7 +10,7 @@ use Rattle.leaf.proofs.report.put_end.Statement.{statement}
 use Rattle.leaf.proofs.report.put_end.Tie as tie
 
 abbrev entry : tie.After-put-start → tie.Start
-entry c = c .before .before .before .before
+entry c = c .before .before .before .before .before
 
 abbrev started : tie.After-write → tie.After-put-start
 started c = c .before .before .before .before

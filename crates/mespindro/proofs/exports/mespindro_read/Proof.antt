@@ -13,8 +13,11 @@ count-of-requires c κs = search needs
 same-length : tie.Need-same-length
 same-length c = search needs
 
+same-length-2 : tie.Need-same-length-2
+same-length-2 c = search needs
+
 returns : tie.Need-returns
-returns c = reads-told (c .count-of .ensures) (c .before .before .before .read .ensures)
+returns c = reads-told (c .count-of .ensures) (c .before .before .before .before .before .read .ensures)
 
 pub mespindro-read-spec : {M : Type 1} → statement M
-mespindro-read-spec = tie.close (tie.spec read-requires count-of-requires same-length returns)
+mespindro-read-spec = tie.close (tie.spec read-requires count-of-requires same-length same-length-2 returns)

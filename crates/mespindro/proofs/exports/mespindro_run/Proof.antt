@@ -16,9 +16,15 @@ same-length c = search needs
 same-length-2 : tie.Need-same-length-2
 same-length-2 c = search needs
 
+same-length-3 : tie.Need-same-length-3
+same-length-3 c = search needs
+
+same-length-4 : tie.Need-same-length-4
+same-length-4 c = search needs
+
 returns : tie.Need-returns
-returns c = runs-told (c .stop-of .ensures) (c .before .before .before .before .before .run .ensures)
+returns c = runs-told (c .stop-of .ensures) (c .before .before .before .before .before .before .before .before .before .run .ensures)
 
 pub mespindro-run-spec : {M : Type 1} → statement M
 mespindro-run-spec =
-    tie.close (tie.spec run-requires stop-of-requires same-length same-length-2 returns)
+    tie.close (tie.spec run-requires stop-of-requires same-length same-length-2 same-length-3 same-length-4 returns)

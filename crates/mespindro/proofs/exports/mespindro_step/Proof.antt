@@ -13,8 +13,11 @@ move-of-requires c κs = search needs
 same-length : tie.Need-same-length
 same-length c = search needs
 
+same-length-2 : tie.Need-same-length-2
+same-length-2 c = search needs
+
 returns : tie.Need-returns
-returns c = steps-told (c .move-of .ensures) (c .before .before .before .step .ensures)
+returns c = steps-told (c .move-of .ensures) (c .before .before .before .before .before .step .ensures)
 
 pub mespindro-step-spec : {M : Type 1} → statement M
-mespindro-step-spec = tie.close (tie.spec step-requires move-of-requires same-length returns)
+mespindro-step-spec = tie.close (tie.spec step-requires move-of-requires same-length same-length-2 returns)

@@ -1,16 +1,17 @@
 -- `reading::read::read` meets its contract: the scan, the parse and the check of the build table decide the refusals in their order, and only then is anything written.
-use mathlib.Core.Path.{_≡_, ap}
+use mathlib.Core.Path.{_≡_, sym, ap}
 use mathlib.Core.List.{List}
 use Prim.Native.Nat.{ℕ}
 use native.Mathlib.Omega.{arith}
 use borrow.Author.Needs.{needs}
 use borrow.Author.Tests.{not-true, not-false}
+use Rattle.calculus.specs.Sheets.{sheet}
 use Rattle.calculus.specs.Calls.{Reads}
 use Rattle.table.specs.Checks.{checkedNumber, Checks}
-use Rattle.table.proofs.Verdicts.{limit-in-force, admitted-there}
+use Rattle.table.proofs.Verdicts.{AdmittedIn, limit-in-force, admitted-there}
 use Rattle.reading.specs.Reading.{parsedValues}
 use Rattle.reading.specs.declared.Parsed.{Parsed}
-use Rattle.reading.proofs.Readings.{Scanned, Parsed-there, Loaded, read-too-long, read-not-canonical, scan, decide, parsed-there, read-too-many, load, read-incoherent, read-no-room, read-done}
+use Rattle.reading.proofs.Readings.{Scanned, Parsed-there, Loaded, read-too-long, read-not-canonical, scan, decide, parsed-there, read-too-many, load, read-incoherent, read-no-room, load-countable, load-length, read-done}
 use Rattle.reading.proofs.read.read.Statement.{statement}
 use Rattle.reading.proofs.read.read.Tie as tie
 
@@ -19,7 +20,7 @@ abbrev built : tie.After-parse → List ℕ
 built c = c .parse .last .1 .1 .0
 
 abbrev entry : tie.After-parse → tie.Start
-entry c = c .before .before .before .before .before .before .before .before .before .before .before
+entry c = c .before .before .before .before .before .before .before .before .before .before .before .before
 
 abbrev after-parse : tie.After-n → tie.After-parse
 after-parse c = c .before .before .before .before .before .before
@@ -34,7 +35,7 @@ scanned c =
     scan (omega (arith, c .before .before .before .before .before .if1)) (not-false (one .result) (c .before .before .before .if2 .left)) (one .ensures)
 
 -- what the parse decides
-decided : {x : Parsed} (c : tie.After-parse) → c .parse .result ≡ x → (parsedValues x .refusal ≡ 0 → ⊥) → let s = entry c .args in Reads (s .limit) (s .text .now) (s .out .now) (parsedValues x) (s .out .now)
+decided : {x : Parsed} (c : tie.After-parse) → c .parse .result ≡ x → (parsedValues x .refusal ≡ 0 → ⊥) → let s = entry c .args in let into = sheet (s .out .now) (s .column .now) in Reads (s .limit) (s .text .now) into (parsedValues x) into
 decided c e f = decide _ (scanned c) e f (c .parse .ensures)
 
 -- a program is there
@@ -48,6 +49,13 @@ loaded c = let d = after-parse (after-n c) in load (parsed (after-n c)) (omega (
 -- what the check says of it
 checked : (c : tie.After-check) → let n = after-n c in let d = after-parse n in Checks (entry d .args .limit) (built d) (n .n .given .0 .0) (checkedNumber (c .check .result))
 checked c = let s = entry (after-parse (after-n c)) in rw (limit-in-force _ _ (s .pre .0) (s .pre .1 .1 .0)) at (c .check .ensures)
+
+abbrev after-check : tie.After-holds → tie.After-check
+after-check c = c .before .before .before .before .before
+
+-- the check admits a program
+admits : (c : tie.After-holds) → let n = after-n (after-check c) in let d = after-parse n in AdmittedIn (entry d .args .limit) (built d) (n .n .given .0 .0)
+admits c = admitted-there (c .before .enum-told4 .given .1) (checked (after-check c))
 
 mul-if1 : tie.Need-mul-if1
 mul-if1 c = search needs
@@ -133,6 +141,9 @@ same-length-11 c = search needs
 returns-7 : tie.Need-returns-7
 returns-7 c = let d = c .before .before .before .before in read-incoherent (loaded d) (c .enum-told5 .given .1) (checked d)
 
+holds-requires : tie.Need-holds-requires
+holds-requires c κs = search needs
+
 same-length-12 : tie.Need-same-length-12
 same-length-12 c = search needs
 
@@ -143,10 +154,25 @@ same-length-14 : tie.Need-same-length-14
 same-length-14 c = search needs
 
 returns-8 : tie.Need-returns-8
-returns-8 c = let d = c .before .before .before .before .before in read-no-room (loaded d) (admitted-there (c .before .enum-told4 .given .1) (checked d)) (omega arith)
+returns-8 c = read-no-room (loaded (after-check (c .before))) (admits (c .before)) (omega (arith, c .before .holds .ensures))
 
 copy-nodes-requires : tie.Need-copy-nodes-requires
 copy-nodes-requires c κs = search needs
+
+mul-count-column : tie.Need-mul-count-column
+mul-count-column c = search needs
+
+slice-reshare-prefix-count-column : tie.Need-slice-reshare-prefix-count-column
+slice-reshare-prefix-count-column c = loaded (after-check (c .before .before .before .before .before .before)) .table-of .within
+
+slice-aggregate-count-column : tie.Need-slice-aggregate-count-column
+slice-aggregate-count-column c = sym (load-length (loaded (after-check (c .before .before .before .before .before .before .before))))
+
+count-column-requires : tie.Need-count-column-requires
+count-column-requires c κs =
+    let f = c .before .before .before .before .before .before .before in
+    let h = loaded (after-check (f .before)) in
+    (load-countable h, (omega (arith, load-length h, f .if4, f .before .holds .ensures), omega (arith, load-length h, h .table-of .small, entry (after-parse (after-n (after-check (f .before)))) .pre .0)))
 
 same-length-15 : tie.Need-same-length-15
 same-length-15 c = search needs
@@ -160,11 +186,15 @@ same-length-17 c = search needs
 same-length-18 : tie.Need-same-length-18
 same-length-18 c = search needs
 
+same-length-19 : tie.Need-same-length-19
+same-length-19 c = search needs
+
 returns-9 : tie.Need-returns-9
 returns-9 c =
-    let e = c .before .before .before .before .before in
-    let d = e .before .before .before .before .before in
-    read-done (loaded d) (admitted-there (e .before .enum-told4 .given .1) (checked d)) (omega (arith, e .if4)) (c .before .before .copy-nodes .ensures .1)
+    let w = c .before .before in
+    let y = w .before .before .before .before .before in
+    let e = y .before .before .before in
+    read-done (loaded (after-check (e .before))) (admits (e .before)) (omega (arith, e .if4, e .before .holds .ensures)) (y .copy-nodes .ensures .1) (w .count-column .ensures)
 
 pub read-spec : {M : Type 1} → statement M
 read-spec =
@@ -198,13 +228,19 @@ read-spec =
     same-length-10
     same-length-11
     returns-7
+    holds-requires
     same-length-12
     same-length-13
     same-length-14
     returns-8
     copy-nodes-requires
+    mul-count-column
+    slice-reshare-prefix-count-column
+    slice-aggregate-count-column
+    count-column-requires
     same-length-15
     same-length-16
     same-length-17
     same-length-18
+    same-length-19
     returns-9)

@@ -1,13 +1,15 @@
--- `writing::store::write` meets its contract: the check of the table refuses, or the length of the text decides.
+-- `writing::store::write` meets its contract: the check of the table with its column refuses, or the length of the text decides.
 use native.Mathlib.Omega.{arith}
 use borrow.Author.Needs.{needs}
-use Rattle.table.proofs.Verdicts.{limit-in-force, AdmittedIn, admitted-there}
+use Rattle.calculus.specs.Sheets.{sheet}
+use Rattle.table.proofs.Verdicts.{limit-in-force}
+use Rattle.column.proofs.Admissions.{HeldIn, held-there}
 use Rattle.writing.proofs.Stored.{write-refused, counted, write-no-room, write-room, write-cells, write-written}
 use Rattle.writing.proofs.store.write.Statement.{statement}
 use Rattle.writing.proofs.store.write.Tie as tie
 
-check-requires : tie.Need-check-requires
-check-requires c κs = search needs
+check-with-requires : tie.Need-check-with-requires
+check-with-requires c κs = search needs
 
 enum-known-r : tie.Need-enum-known-r
 enum-known-r c = search needs
@@ -15,26 +17,26 @@ enum-known-r c = search needs
 enum-told : tie.Need-enum-told
 enum-told c = search needs
 
--- past the check an admitted program stands there
-admitted-in : (c : tie.After-enum-told) → let s = c .before .before .before .before .before .before .before .before .before in AdmittedIn (s .args .limit) (s .args .t .now) (s .args .count)
-admitted-in c =
+-- past the check an admitted program stands there with its column
+held-in : (c : tie.After-enum-told) → let s = c .before .before .before .before .before .before .before .before .before .before in HeldIn (s .args .limit) (sheet (s .args .t .now) (s .args .column .now)) (s .args .count)
+held-in c =
     let d = c .before .before .before .before in
-    let s = d .before .before .before .before .before in
-    admitted-there (c .enum-told .given .1) (rw (limit-in-force _ _ (s .pre .0) (s .pre .1)) at (d .check .ensures))
+    let s = d .before .before .before .before .before .before in
+    held-there (c .enum-told .given .1) (rw (limit-in-force _ _ (s .pre .0) (s .pre .1)) at (d .check-with .ensures))
 
 text-length-requires : tie.Need-text-length-requires
-text-length-requires c κs = let a = admitted-in c in (counted a, omega (arith, a .table-of .small, c .before .before .before .before .before .before .before .before .before .pre))
+text-length-requires c κs = let a = held-in c in (counted a, omega (arith, a .table-of .small, c .before .before .before .before .before .before .before .before .before .before .pre))
 
 same-length : tie.Need-same-length
 same-length c = search needs
 
 returns : tie.Need-returns
-returns c = let d = c .before in write-no-room (admitted-in (d .before)) (d .text-length .ensures) (omega arith)
+returns c = let d = c .before in write-no-room (held-in (d .before)) (d .text-length .ensures) (omega arith)
 
 put-text-requires : tie.Need-put-text-requires
 put-text-requires c κs =
     let d = c .before .before .before in
-    let a = admitted-in (d .before) in
+    let a = held-in (d .before) in
     (write-room a (d .text-length .ensures) (omega arith), write-cells a _ (omega arith))
 
 same-length-2 : tie.Need-same-length-2
@@ -43,8 +45,8 @@ same-length-2 c = search needs
 returns-2 : tie.Need-returns-2
 returns-2 c =
     let d = c .before .before .before .before .before in
-    let s = d .before .before .before .before .before in
-    write-refused (c .before .r .given .1) (rw (limit-in-force _ _ (s .pre .0) (s .pre .1)) at (d .check .ensures))
+    let s = d .before .before .before .before .before .before in
+    write-refused (c .before .r .given .1) (rw (limit-in-force _ _ (s .pre .0) (s .pre .1)) at (d .check-with .ensures))
 
 same-length-3 : tie.Need-same-length-3
 same-length-3 c = search needs
@@ -53,13 +55,13 @@ same-length-4 : tie.Need-same-length-4
 same-length-4 c = search needs
 
 returns-3 : tie.Need-returns-3
-returns-3 c = let e = c .before .before .before .before in let d = e .before .before .before .before in write-written (admitted-in (d .before)) (d .text-length .ensures) (omega arith) (e .put-text .ensures)
+returns-3 c = let e = c .before .before .before .before in let d = e .before .before .before .before in write-written (held-in (d .before)) (d .text-length .ensures) (omega arith) (e .put-text .ensures)
 
 pub write-spec : {M : Type 1} → statement M
 write-spec =
     tie.close
     (tie.spec
-    check-requires
+    check-with-requires
     enum-known-r
     enum-told
     text-length-requires

@@ -1,6 +1,6 @@
 //! The inputs of the benchmark, built from code.
 
-use mespindro_tests::evaluator::table::write_table;
+use mespindro_tests::evaluator::table::{write_table, OwnTable};
 use mespindro_tests::evaluator::text::read_text;
 use mespindro_tests::random::Random;
 use std::path::Path;
@@ -8,9 +8,17 @@ use std::path::Path;
 /// A run that is measured; where the evaluator cannot take the input in a bearable time, the library alone.
 pub struct Case {
     pub name: &'static str,
-    pub table: Vec<u16>,
+    pub table: OwnTable,
     pub most: u32,
     pub alone: bool,
+}
+
+/// The numbers of a program with its column.
+pub fn with_column(numbers: Vec<u16>) -> OwnTable {
+    let count = numbers.len() / 2;
+    let table = OwnTable::of_numbers(&numbers, count);
+    assert_eq!(table.nodes(), count, "a program");
+    table
 }
 
 /// Kind and number.
@@ -19,7 +27,7 @@ type Node = (u16, u16);
 pub fn cases() -> Vec<Case> {
     let case = |name, table, most| Case {
         name,
-        table,
+        table: with_column(table),
         most,
         alone: false,
     };
@@ -59,6 +67,11 @@ pub fn cases() -> Vec<Case> {
         case(
             "1,022 guards, nested on the right",
             nested_guards(1022),
+            10_000,
+        ),
+        case(
+            "80 guards before a value of 20 closures of 90 nodes",
+            guards_before_closures(80, 20),
             10_000,
         ),
         case(
@@ -102,7 +115,7 @@ pub fn cases() -> Vec<Case> {
 fn alone_cases() -> Vec<Case> {
     let case = |name, table, most| Case {
         name,
-        table,
+        table: with_column(table),
         most,
         alone: true,
     };
@@ -225,6 +238,22 @@ fn beside_variables(k: u16, part: &[Node]) -> Vec<u16> {
 fn nested_guards(n: usize) -> Vec<u16> {
     let mut nodes = [(9, 0), (4, 2)].repeat(n);
     nodes.push((4, 1));
+    one_thread(&nodes)
+}
+
+/// `(g c0 (g c0 .. V))`, where V is c9 applied to k closures of 90 nodes, each with a location of its own: a search that walks bodies walks
+/// them all at each step.
+fn guards_before_closures(n: usize, k: u16) -> Vec<u16> {
+    let closure = |location: u16| {
+        let mut nodes = vec![(6, location), (1, 0)];
+        nodes.extend(structure(43, |_| (4, 2)));
+        nodes.push((0, 0));
+        nodes
+    };
+    let closures: Vec<Vec<Node>> = (0..k).map(closure).collect();
+    let closures: Vec<&[Node]> = closures.iter().map(|c| &c[..]).collect();
+    let mut nodes = [(9, 0), (4, 0)].repeat(n);
+    nodes.extend(applied((4, 9), &closures));
     one_thread(&nodes)
 }
 

@@ -1,17 +1,18 @@
 //! The benchmark: the library against the independent evaluator and against the floor of copying the table once a step.
 //!
 //! `bench FOLDER` writes FOLDER/SPEED.md's table between its two marks and FOLDER/speed.svg; without a folder it prints the table. Both sides
-//! are release builds in one process on the same inputs; before each call the table is filled anew and the work table cleared, outside the
-//! time. Each time is the least of several rounds. tools/bench builds and runs it.
+//! are release builds in one process on the same inputs; before each call the table is filled anew and the work table cleared, both with their
+//! columns, outside the time. Each time is the least of several rounds. tools/bench builds and runs it.
 
 mod inputs;
 
-use inputs::{cases, long_structure, placements, plain_structure, Case};
+use inputs::{cases, long_structure, placements, plain_structure, with_column, Case};
 use mespindro::Standing;
-use mespindro_tests::evaluator::table::read_table;
-use mespindro_tests::evaluator::{self, NODES, TEXT};
+use mespindro_tests::evaluator::table::{read_table, OwnTable};
+use mespindro_tests::evaluator::{self, Lengths, TEXT};
 use mespindro_tests::on_big_stack;
 use mespindro_tests::progress::Progress;
+use std::cell::RefCell;
 use std::fmt::Write;
 use std::hint::black_box;
 use std::path::Path;
@@ -93,7 +94,7 @@ fn least(mut prepare: impl FnMut(), mut call: impl FnMut(&mut dyn FnMut())) -> D
 }
 
 fn measure(case: &Case) -> Row {
-    let nodes = case.table.len() / 2;
+    let nodes = case.table.nodes();
     let (library, steps) = library_run(case);
     let evaluator = (!case.alone).then(|| evaluator_run(case));
     Row {
@@ -107,24 +108,18 @@ fn measure(case: &Case) -> Row {
 }
 
 fn library_run(case: &Case) -> (Duration, u32) {
-    let table = std::cell::RefCell::new(vec![0u16; 2 * NODES]);
-    let work = std::cell::RefCell::new(vec![0u16; 2 * NODES]);
+    let lent = || RefCell::new(OwnTable::empty(Lengths::FULL));
+    let (table, work) = (lent(), lent());
     let mut steps = 0;
-    let count = case.table.len() / 2;
+    let count = case.table.nodes();
     let time = least(
         || {
-            let mut table = table.borrow_mut();
-            table.fill(0);
-            table[..case.table.len()].copy_from_slice(&case.table);
-            work.borrow_mut().fill(0);
+            fill(&mut table.borrow_mut(), Some(&case.table));
+            fill(&mut work.borrow_mut(), None);
         },
         |done| {
-            let stop = mespindro::run(
-                &mut table.borrow_mut(),
-                count,
-                &mut work.borrow_mut(),
-                case.most,
-            );
+            let (mut table, mut work) = (table.borrow_mut(), work.borrow_mut());
+            let stop = mespindro::run(table.lent_mut(), count, work.lent_mut(), case.most);
             done();
             steps = stop.expect("the case runs").steps;
         },
@@ -132,15 +127,25 @@ fn library_run(case: &Case) -> (Duration, u32) {
     (time, steps)
 }
 
-/// The evaluator's whole call: it reads the table into a tree, runs it and writes the end's table.
+/// Fills lent memory anew: a program at the front, zeros behind it.
+fn fill(memory: &mut OwnTable, program: Option<&OwnTable>) {
+    memory.numbers.fill(0);
+    memory.column.fill(0);
+    if let Some(program) = program {
+        memory.numbers[..program.numbers.len()].copy_from_slice(&program.numbers);
+        memory.column[..program.nodes()].copy_from_slice(&program.column);
+    }
+}
+
+/// The evaluator's whole call: it reads the table into a tree, runs it and writes the end's table and column.
 fn evaluator_run(case: &Case) -> Duration {
-    let mut table = vec![0u16; 2 * NODES];
-    table[..case.table.len()].copy_from_slice(&case.table);
-    let count = case.table.len() / 2;
+    let mut table = OwnTable::empty(Lengths::FULL);
+    fill(&mut table, Some(&case.table));
+    let count = case.table.nodes();
     least(
         || {},
         |done| {
-            let end = evaluator::run(&table, count, 2 * NODES, case.most);
+            let end = evaluator::run(table.lent(), count, Lengths::FULL, case.most);
             done();
             black_box(end.expect("small enough to copy").expect("the case runs"));
         },
@@ -164,20 +169,19 @@ fn copy_floor(nodes: usize) -> Duration {
     thousand / 1000
 }
 
-fn long_program() -> (Vec<u8>, Vec<u16>) {
-    let table = long_structure();
-    let text =
-        evaluator::text::write_text(&read_table(&table, table.len() / 2).expect("a program"));
-    (text, table)
+fn long_program() -> (Vec<u8>, OwnTable) {
+    let table = with_column(long_structure());
+    let program = read_table(table.lent(), table.nodes()).expect("a program");
+    (evaluator::text::write_text(&program), table)
 }
 
 fn reading() -> Row {
     let (text, table) = long_program();
-    let mut out = vec![0u16; 2 * NODES];
+    let mut out = OwnTable::empty(Lengths::FULL);
     let library = least(
         || {},
         |done| {
-            let read = mespindro::read(&text, &mut out);
+            let read = mespindro::read(&text, out.lent_mut());
             done();
             read.expect("the text is read");
         },
@@ -185,7 +189,7 @@ fn reading() -> Row {
     let evaluator = least(
         || {},
         |done| {
-            let read = evaluator::read(&text, 2 * NODES);
+            let read = evaluator::read(&text, Lengths::FULL);
             done();
             black_box(read.expect("the text is read"));
         },
@@ -199,7 +203,7 @@ fn writing() -> Row {
     let library = least(
         || {},
         |done| {
-            let written = mespindro::write(&table, table.len() / 2, &mut out);
+            let written = mespindro::write(table.lent(), table.nodes(), &mut out);
             done();
             written.expect("the table is written");
         },
@@ -207,7 +211,7 @@ fn writing() -> Row {
     let evaluator = least(
         || {},
         |done| {
-            let written = evaluator::write(&table, table.len() / 2, TEXT);
+            let written = evaluator::write(table.lent(), table.nodes(), TEXT);
             done();
             black_box(written.expect("the table is written"));
         },
@@ -217,12 +221,12 @@ fn writing() -> Row {
 
 /// How one long thread stands.
 fn standing() -> Row {
-    let table = plain_structure();
-    let count = table.len() / 2;
+    let table = with_column(plain_structure());
+    let count = table.nodes();
     let library = least(
         || {},
         |done| {
-            let told = mespindro::standing(&table, count, 0);
+            let told = mespindro::standing(table.lent(), count, 0);
             done();
             assert_eq!(told, Ok(Standing::Answer));
         },
@@ -230,7 +234,7 @@ fn standing() -> Row {
     let evaluator = least(
         || {},
         |done| {
-            let told = evaluator::standing(&table, count, 0);
+            let told = evaluator::standing(table.lent(), count, 0);
             done();
             assert_eq!(told, Ok(Standing::Answer));
         },
@@ -247,14 +251,14 @@ fn standing() -> Row {
 
 /// Every thread's standing and part, each by its own call; against copying the table once.
 fn reading_out() -> Row {
-    let table = placements(255);
-    let count = table.len() / 2;
+    let table = with_column(placements(255));
+    let count = table.nodes();
     let library = least(
         || {},
         |done| {
             for k in 0..255 {
-                black_box(mespindro::standing(&table, count, k).expect("a thread"));
-                black_box(mespindro::thread(&table, count, k));
+                black_box(mespindro::standing(table.lent(), count, k).expect("a thread"));
+                black_box(mespindro::thread(table.lent(), count, k));
             }
             done();
         },
@@ -263,8 +267,8 @@ fn reading_out() -> Row {
         || {},
         |done| {
             for k in 0..255 {
-                black_box(evaluator::standing(&table, count, k).expect("a thread"));
-                black_box(evaluator::thread(&table, count, k).expect("a thread"));
+                black_box(evaluator::standing(table.lent(), count, k).expect("a thread"));
+                black_box(evaluator::thread(table.lent(), count, k).expect("a thread"));
             }
             done();
         },
@@ -279,14 +283,14 @@ fn reading_out() -> Row {
     }
 }
 
-fn row(what: &str, text: &[u8], table: &[u16], library: Duration, evaluator: Duration) -> Row {
+fn row(what: &str, text: &[u8], table: &OwnTable, library: Duration, evaluator: Duration) -> Row {
     Row {
         name: format!("{what} of {} bytes", thousands(text.len())),
-        nodes: table.len() / 2,
+        nodes: table.nodes(),
         steps: 0,
         library,
         evaluator: Some(evaluator),
-        floor: copy_floor(table.len() / 2),
+        floor: copy_floor(table.nodes()),
     }
 }
 

@@ -1,0 +1,2 @@
+-- The laws behind the proofs of src/.
+pub mod Places

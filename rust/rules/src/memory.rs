@@ -1,0 +1,31 @@
+//! Memory that is lent to the library.
+
+use mespindro::{Table, TableMut, COLUMN, TABLE};
+
+/// A table with its column: both hold every program.
+pub struct Memory {
+    /// Two a node.
+    pub numbers: Vec<u16>,
+    /// One a node.
+    pub column: Vec<u16>,
+}
+
+impl Memory {
+    /// A new one, of zeros only.
+    pub fn zeros() -> Memory {
+        Memory {
+            numbers: vec![0; TABLE],
+            column: vec![0; COLUMN],
+        }
+    }
+
+    /// To be read.
+    pub fn table(&self) -> Table<'_> {
+        Table::new(&self.numbers, &self.column)
+    }
+
+    /// To be written.
+    pub fn table_mut(&mut self) -> TableMut<'_> {
+        TableMut::new(&mut self.numbers, &mut self.column)
+    }
+}
