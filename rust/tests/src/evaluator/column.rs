@@ -46,6 +46,5 @@ fn put_term(term: &Term, column: &mut Vec<u16>) {
 /// The node at the place, and all that was put behind it.
 fn fill(column: &mut [u16], place: usize) {
     let nodes = column.len() - place;
-    column[place] =
-        u16::try_from(nodes).expect("no program that is compared has so many nodes");
+    column[place] = u16::try_from(nodes).expect("no program that is compared has so many nodes");
 }
