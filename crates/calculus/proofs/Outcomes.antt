@@ -52,11 +52,11 @@ reads-once {n} {b} {out} (refused r g) (refused q h) = (ap (λ (x : Refusal). re
 
 module _ {n : ℕ} {numbers : List ℕ} {count : ℕ} where
   -- a program makes one step
-  steps-to-unique : {p q : Tree program} {s r : Step} → StepsTo n numbers count p s → StepsTo n numbers count q r → s ≡ r
+  pub steps-to-unique : {p q : Tree program} {s r : Step} → StepsTo n numbers count p s → StepsTo n numbers count q r → s ≡ r
   steps-to-unique {s = s} {r} h k = Option·some-injective s r (sym (h .steps) ∙ ap (λ (x : Tree program). step (threads x)) (table-of-unique (h .table-of) (k .table-of)) ∙ k .steps)
 
   -- there is one thread of a number, with the same threads before it
-  thread-of-unique : {k : ℕ} {t u : Tree term} (h : ThreadOf n numbers count k t) (i : ThreadOf n numbers count k u) → (t ≡ u) × (h .before ≡ i .before)
+  pub thread-of-unique : {k : ℕ} {t u : Tree term} (h : ThreadOf n numbers count k t) (i : ThreadOf n numbers count k u) → (t ≡ u) × (h .before ≡ i .before)
   thread-of-unique {k} {t} {u} h i =
       split (h .before) (i .before) (h .after) (i .after) (h .place ∙ sym (i .place))
       (sym (threads-of-program (h .before ++ (t ∷ h .after))) ∙ ap threads (table-of-unique (h .table-of) (i .table-of)) ∙ threads-of-program (i .before ++ (u ∷ i .after)))

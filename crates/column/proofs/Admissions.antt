@@ -19,7 +19,7 @@ use Rattle.table.specs.Checks.{Checks, checkedNumber}
 use Rattle.table.specs.declared.Checked.{Checked}
 use Rattle.table.specs.declared.Checked.the-variants.{Admitted, Refused}
 use Rattle.table.proofs.Verdicts.{AdmittedIn, table-stands, refused-there}
-use Rattle.column.specs.Sizes.{TreeOf, Verdict}
+use Rattle.column.specs.Sizes.{TreeOf, ColumnVerdict}
 use Rattle.column.specs.Admissions.{ChecksWith, admitted, refused}
 
 -- the table's check refuses with r
@@ -73,7 +73,7 @@ module _ {n : ℕ} {t : List ℕ} {count : ℕ} where
     column-refuses q (inl g) = inl g
     column-refuses q (inr g) = inr (g .0, inr (not-wrong, g .1))
 
-  module _ {c : List ℕ} {b : Bool} (v : Verdict t c count b) where
+  module _ {c : List ℕ} {b : Bool} (v : ColumnVerdict t c count b) where
     -- the column is wrong
     pub not-right : SomeProgram n t count → b ≡ false → ChecksWith n (sheet t c) count 14
     not-right p e = refused refusal.WrongColumn (inr ((λ f. f (p .program-there) (p .table-of)), inl ((p .program-there, (p .table-of, v .wrong e _ (table-stands (p .table-of)) (p .table-of .counts))), refl)))

@@ -8,7 +8,7 @@ use Rattle.calculus.specs.Sheets.{Sheet}
 use Rattle.calculus.specs.Answers.{Values}
 use Rattle.calculus.specs.Calls.{Reads, Writes, StepsInto, RunsWith, StandsAt}
 
--- each call on the table, its column and its count accepts, or gives a number that tells of something else
+-- each call on the table, its column and its count accepts, or gives a number that tells of something else; the thread call gives none
 pub record Admits (n : ℕ) (table : Sheet) (count : ℕ) : Type 0 where
   pub writes : (out : List ℕ) (v : Values) (o : List ℕ) → Writes n table count out v o → (v .refusal ≡ 0) ⊎ (v .refusal ≡ 9)
   pub steps : (out : Sheet) (v : Values) (o : Sheet) → StepsInto n table count out v o → (v .refusal ≡ 0) ⊎ ((v .refusal ≡ 7) ⊎ ((v .refusal ≡ 9) ⊎ (v .refusal ≡ 11)))

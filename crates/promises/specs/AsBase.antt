@@ -1,5 +1,5 @@
--- Request 5, the same as without columns: "where the column handed in is right and both columns are at least as long as their tables hold, answers and tables are those
--- of the base, number for number". The base is each call over tables alone, as document 01 has it.
+-- Request 5, the same as without columns: where the column handed in is right and both columns are at least as long as their tables hold, answers and tables are those
+-- of the base, number for number. The base is each call over tables alone, as the calls were before request 5.
 use mathlib.Core.Path.{_≡_}
 use mathlib.Core.List.{List, [], _∷_, _++_}
 use mathlib.Core.Option.{none}
@@ -73,7 +73,7 @@ module _ (n : ℕ) (table : List ℕ) (count : ℕ) where
       Base (plain-refusals n table count ++ ((NoRoom, held < count) ∷ [])) (TableOf n table count) (λ p. ran-values (run room limit (threads p)) (run-counts room limit (threads p)))
       (λ p. (zeros-behind (preorder (program-of (run room limit (threads p) .last))) table, replicate (length work) 0)) refused-run (table, work)
 
-  -- "room is the least of what both tables hold, in whole nodes, and the node limit"
+  -- room is the least of what both tables hold, in whole nodes, and the node limit
   abbrev pub BaseRuns : List ℕ → ℕ → Values → List ℕ × List ℕ → Type 0
   BaseRuns work = BaseRunsIn (min (min (length table / 2) (length work / 2)) n) (length work / 2) work
 
@@ -89,15 +89,15 @@ module _ (n : ℕ) (table : List ℕ) (count : ℕ) where
   abbrev pub BasePart : ℕ → ℕ → List ℕ → Type 0
   BasePart k = Base {X = (t : Tree term) × ThreadOf n table count k t} (base-thread-refusals k) (λ x. Unit {0}) (λ x. 2 * nodes-before (x .1 .before)) (λ x. preorder (x .0)) (λ r. 0) []
 
--- "where the column handed in is right"
+-- where the column handed in is right
 abbrev pub RightColumn : ℕ → Sheet → ℕ → Type 0
 RightColumn n table count = (p : Tree program) → TableOf n (table .numbers) count p → ColumnOf (table .sizes) count p
 
--- "and both columns are at least as long as their tables hold"
+-- and both columns are at least as long as their tables hold
 abbrev pub LongColumn : Sheet → Type 0
 LongColumn s = length (s .numbers) / 2 ≤ length (s .sizes)
 
--- "answers and tables are those of the base, number for number"
+-- answers and tables are among those of the base, number for number
 pub record AsBase : Type 0 where
   pub reads : (n : ℕ) (b : List ℕ) (out : Sheet) (v : Values) (o : Sheet) → LongColumn out → Reads n b out v o → BaseReads n b (out .numbers) v (o .numbers)
   pub writes : (n : ℕ) (table : Sheet) (count : ℕ) (out : List ℕ) (v : Values) (o : List ℕ) → RightColumn n table count → Writes n table count out v o → BaseWrites n (table .numbers) count out v o
@@ -105,8 +105,21 @@ pub record AsBase : Type 0 where
       BaseSteps n (table .numbers) count (out .numbers) v (o .numbers)
   pub runs : (n : ℕ) (table : Sheet) (count : ℕ) (work : Sheet) (limit : ℕ) (v : Values) (t w : Sheet) → RightColumn n table count → LongColumn table → LongColumn work → RunsWith n table count work limit v t w →
       BaseRuns n (table .numbers) count (work .numbers) limit v (t .numbers, w .numbers)
-  -- "in general a run is the base's in the room so read", however long the columns are
+  -- a run is the base's in the room so read, however long the columns are
   pub runs-in : (n : ℕ) (table : Sheet) (count : ℕ) (work : Sheet) (limit : ℕ) (v : Values) (t w : Sheet) → RightColumn n table count → RunsWith n table count work limit v t w →
       BaseRunsIn n (table .numbers) count (room-of n table work) (holds work) (work .numbers) limit v (t .numbers, w .numbers)
   pub stands : (n : ℕ) (table : Sheet) (count k : ℕ) (v : Values) → RightColumn n table count → StandsAt n table count k v → BaseStands n (table .numbers) count k v (table .numbers)
   pub parts : (n : ℕ) (table : Sheet) (count k start : ℕ) (part : List ℕ) → RightColumn n table count → PartAt n table count k start part → BasePart n (table .numbers) count k start part
+
+-- one outcome only is allowed
+abbrev Once : {A B : Type 0} → (A → B → Type 0) → Type 0
+Once {A} {B} R = (a c : A) (b d : B) → R a b → R c d → (a ≡ c) × (b ≡ d)
+
+-- and the base allows one outcome of each call: so they are those, and no others
+pub record BaseOnce : Type 0 where
+  pub reads : (n : ℕ) (b out : List ℕ) → Once (BaseReads n b out)
+  pub writes : (n : ℕ) (table : List ℕ) (count : ℕ) (out : List ℕ) → Once (BaseWrites n table count out)
+  pub steps : (n : ℕ) (table : List ℕ) (count : ℕ) (out : List ℕ) → Once (BaseSteps n table count out)
+  pub runs : (n : ℕ) (table : List ℕ) (count room held : ℕ) (work : List ℕ) (limit : ℕ) → Once (BaseRunsIn n table count room held work limit)
+  pub stands : (n : ℕ) (table : List ℕ) (count k : ℕ) → Once (BaseStands n table count k)
+  pub parts : (n : ℕ) (table : List ℕ) (count k : ℕ) → Once (BasePart n table count k)

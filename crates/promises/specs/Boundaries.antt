@@ -16,8 +16,8 @@ use Rattle.mespindro.specs.Limit.{limit}
 use Rattle.promises.specs.Worked.{Held}
 
 -- so many numbers are lent for a table, and so many entries for its column
-abbrev pub Lent : Sheet → ℕ → ℕ → Type 0
-Lent s a b = (length (s .numbers) ≡ a) × (length (s .sizes) ≡ b)
+abbrev pub LentLengths : Sheet → ℕ → ℕ → Type 0
+LentLengths s a b = (length (s .numbers) ≡ a) × (length (s .sizes) ≡ b)
 
 -- Reading.
 
@@ -74,13 +74,13 @@ pub record ReadBoundaries : Type 0 where
   -- 2: "the text is longer than 24,576 bytes"
   pub longest : (b : List ℕ) (out : Sheet) (v : Values) (o : Sheet) → Reads limit b out v o → (v .refusal ≡ 2) ↔ (24577 ≤ length b)
   -- 9: "the result doesn't fit the lent output"; `(c1)` has three nodes, of two numbers and one entry each
-  pub room-in : (out : Sheet) (v : Values) (o : Sheet) → Lent out 6 3 → Reads limit (ascii "((1:c1:1))") out v o → v .refusal ≡ 0
+  pub room-in : (out : Sheet) (v : Values) (o : Sheet) → LentLengths out 6 3 → Reads limit (ascii "((1:c1:1))") out v o → v .refusal ≡ 0
   pub room-out : (out : Sheet) (v : Values) (o : Sheet) → length (out .numbers) ≡ 5 → Reads limit (ascii "((1:c1:1))") out v o → v .refusal ≡ 9
   pub column-out : (out : Sheet) (v : Values) (o : Sheet) → length (out .sizes) ≡ 2 → Reads limit (ascii "((1:c1:1))") out v o → v .refusal ≡ 9
 
 -- Calls on a table.
 
--- every call on the table with this count gives the refusal m
+-- every call on the table with this count that tells a number gives the refusal m; the thread call tells none
 pub record CallsGive (table : Sheet) (count m : ℕ) : Type 0 where
   pub writes : (out : List ℕ) (v : Values) (o : List ℕ) → Writes limit table count out v o → v .refusal ≡ m
   pub steps : (out : Sheet) (v : Values) (o : Sheet) → StepsInto limit table count out v o → v .refusal ≡ m
@@ -129,7 +129,7 @@ pub record ColumnBoundaries : Type 0 where
   -- of every program: the column is right whatever stands behind the count, and wrong where it has fewer entries
   pub behind : (numbers others : List ℕ) (count : ℕ) (p : Tree program) → TableOf limit numbers count p → Good limit p → CallsAccept (sheet numbers (column p ++ others)) count
   pub fewer : (numbers sizes : List ℕ) (count : ℕ) (p : Tree program) → TableOf limit numbers count p → length sizes < count → CallsGive (sheet numbers sizes) count 14
-  -- "too short": `(c1 (g c1 c2))` with its column, and with one entry less
+  -- "too short", in numbers: `(c1 (g c1 c2))` with its column, and with one entry less
   pub right : (rest others : List ℕ) → CallsAccept (sheet (1 ∷ 0 ∷ 4 ∷ 1 ∷ 1 ∷ 0 ∷ 9 ∷ 0 ∷ 4 ∷ 1 ∷ 4 ∷ 2 ∷ 0 ∷ 0 ∷ rest) (7 ∷ 1 ∷ 5 ∷ 3 ∷ 1 ∷ 1 ∷ 1 ∷ others)) 7
   pub short : (rest : List ℕ) → CallsGive (sheet (1 ∷ 0 ∷ 4 ∷ 1 ∷ 1 ∷ 0 ∷ 9 ∷ 0 ∷ 4 ∷ 1 ∷ 4 ∷ 2 ∷ 0 ∷ 0 ∷ rest) (7 ∷ 1 ∷ 5 ∷ 3 ∷ 1 ∷ 1 ∷ [])) 7 14
   -- "wrong": in its last entry
@@ -163,7 +163,7 @@ pub record CallBoundaries : Type 0 where
   pub write-in : (rest others out : List ℕ) (v : Values) (o : List ℕ) → length out ≡ 10 → Writes limit (sheet (1 ∷ 0 ∷ 4 ∷ 1 ∷ 0 ∷ 0 ∷ rest) (3 ∷ 1 ∷ 1 ∷ others)) 3 out v o → v .refusal ≡ 0
   pub write-out : (rest others out : List ℕ) (v : Values) (o : List ℕ) → length out ≡ 9 → Writes limit (sheet (1 ∷ 0 ∷ 4 ∷ 1 ∷ 0 ∷ 0 ∷ rest) (3 ∷ 1 ∷ 1 ∷ others)) 3 out v o → v .refusal ≡ 9
   -- 9 of a step: `((g c1 c2))` steps to three nodes
-  pub step-in : (rest others : List ℕ) (out : Sheet) (v : Values) (o : Sheet) → Lent out 6 3 → StepsInto limit (sheet (1 ∷ 0 ∷ 9 ∷ 0 ∷ 4 ∷ 1 ∷ 4 ∷ 2 ∷ 0 ∷ 0 ∷ rest) (5 ∷ 3 ∷ 1 ∷ 1 ∷ 1 ∷ others)) 5 out v o → v .refusal ≡ 0
+  pub step-in : (rest others : List ℕ) (out : Sheet) (v : Values) (o : Sheet) → LentLengths out 6 3 → StepsInto limit (sheet (1 ∷ 0 ∷ 9 ∷ 0 ∷ 4 ∷ 1 ∷ 4 ∷ 2 ∷ 0 ∷ 0 ∷ rest) (5 ∷ 3 ∷ 1 ∷ 1 ∷ 1 ∷ others)) 5 out v o → v .refusal ≡ 0
   pub step-out : (rest others : List ℕ) (out : Sheet) (v : Values) (o : Sheet) → length (out .numbers) ≡ 5 → StepsInto limit (sheet (1 ∷ 0 ∷ 9 ∷ 0 ∷ 4 ∷ 1 ∷ 4 ∷ 2 ∷ 0 ∷ 0 ∷ rest) (5 ∷ 3 ∷ 1 ∷ 1 ∷ 1 ∷ others)) 5 out v o → v .refusal ≡ 9
   pub step-column-out : (rest others : List ℕ) (out : Sheet) (v : Values) (o : Sheet) → length (out .sizes) ≡ 2 → StepsInto limit (sheet (1 ∷ 0 ∷ 9 ∷ 0 ∷ 4 ∷ 1 ∷ 4 ∷ 2 ∷ 0 ∷ 0 ∷ rest) (5 ∷ 3 ∷ 1 ∷ 1 ∷ 1 ∷ others)) 5 out v o → v .refusal ≡ 9
   -- 7 of a step: "a single step's result from coherent threads, has over 2,048 nodes"
@@ -176,7 +176,7 @@ pub record CallBoundaries : Type 0 where
   pub rule-and-thread : (rest others : List ℕ) (out : Sheet) (v : Values) (o : Sheet) → 9 ≤ holds out →
       StepsInto limit (sheet (1 ∷ 0 ∷ 4 ∷ 1 ∷ 1 ∷ 0 ∷ 10 ∷ 0 ∷ 4 ∷ 1 ∷ 4 ∷ 2 ∷ 1 ∷ 0 ∷ 8 ∷ 0 ∷ 2 ∷ 0 ∷ 1 ∷ 0 ∷ 5 ∷ 0 ∷ 0 ∷ 0 ∷ 0 ∷ 0 ∷ rest) (13 ∷ 1 ∷ 11 ∷ 3 ∷ 1 ∷ 1 ∷ 7 ∷ 2 ∷ 1 ∷ 4 ∷ 2 ∷ 1 ∷ 1 ∷ others)) 13 out v o → v ≡ record { refusal = 0; values = 9 ∷ 6 ∷ 1 ∷ [] }
   -- 9 of a run: "the program doesn't fit the work table", "or a work column too short for a run's program"
-  pub run-in : (rest others : List ℕ) (work : Sheet) (steps : ℕ) (v : Values) (t w : Sheet) → Lent work 6 3 → RunsWith limit (sheet (1 ∷ 0 ∷ 4 ∷ 1 ∷ 0 ∷ 0 ∷ rest) (3 ∷ 1 ∷ 1 ∷ others)) 3 work steps v t w → v .refusal ≡ 0
+  pub run-in : (rest others : List ℕ) (work : Sheet) (steps : ℕ) (v : Values) (t w : Sheet) → LentLengths work 6 3 → RunsWith limit (sheet (1 ∷ 0 ∷ 4 ∷ 1 ∷ 0 ∷ 0 ∷ rest) (3 ∷ 1 ∷ 1 ∷ others)) 3 work steps v t w → v .refusal ≡ 0
   pub run-out : (rest others : List ℕ) (work : Sheet) (steps : ℕ) (v : Values) (t w : Sheet) → length (work .numbers) ≡ 5 → RunsWith limit (sheet (1 ∷ 0 ∷ 4 ∷ 1 ∷ 0 ∷ 0 ∷ rest) (3 ∷ 1 ∷ 1 ∷ others)) 3 work steps v t w → v .refusal ≡ 9
   pub run-column-out : (rest others : List ℕ) (work : Sheet) (steps : ℕ) (v : Values) (t w : Sheet) → length (work .sizes) ≡ 2 → RunsWith limit (sheet (1 ∷ 0 ∷ 4 ∷ 1 ∷ 0 ∷ 0 ∷ rest) (3 ∷ 1 ∷ 1 ∷ others)) 3 work steps v t w → v .refusal ≡ 9
   -- 10: "there is no thread of that number", which counts from 0
@@ -200,7 +200,7 @@ one-guard = 0 ∷ 0 ∷ 0 ∷ 1 ∷ 0 ∷ 0 ∷ []
 pub record RunBoundaries : Type 0 where
   -- "The table then holds the end program followed by zeros, and the work table zeros only", and the columns so: `((g c1 c2))` in a table of 11 numbers with a column of
   -- 7, and a work table of 10 numbers with a column of 6
-  pub zeros : (a b c : ℕ) (work : Sheet) (v : Values) (t w : Sheet) → Lent work 10 6 →
+  pub zeros : (a b c : ℕ) (work : Sheet) (v : Values) (t w : Sheet) → LentLengths work 10 6 →
       RunsWith limit (sheet (1 ∷ 0 ∷ 9 ∷ 0 ∷ 4 ∷ 1 ∷ 4 ∷ 2 ∷ 0 ∷ 0 ∷ a ∷ []) (5 ∷ 3 ∷ 1 ∷ 1 ∷ 1 ∷ b ∷ c ∷ [])) 5 work 1 v t w →
       (v ≡ record { refusal = 0; values = 1 ∷ 3 ∷ 1 ∷ one-guard }) ×
       (t ≡ sheet (1 ∷ 0 ∷ 4 ∷ 2 ∷ 0 ∷ 0 ∷ 0 ∷ 0 ∷ 0 ∷ 0 ∷ 0 ∷ []) (3 ∷ 1 ∷ 1 ∷ 0 ∷ 0 ∷ 0 ∷ 0 ∷ [])) ×
@@ -209,18 +209,18 @@ pub record RunBoundaries : Type 0 where
   pub no-steps : (rest others : List ℕ) (work : Sheet) (v : Values) (t w : Sheet) → 5 ≤ holds work → RunsWith limit (sheet (1 ∷ 0 ∷ 9 ∷ 0 ∷ 4 ∷ 1 ∷ 4 ∷ 2 ∷ 0 ∷ 0 ∷ rest) (5 ∷ 3 ∷ 1 ∷ 1 ∷ 1 ∷ others)) 5 work 0 v t w → v ≡ record { refusal = 0; values = 2 ∷ 5 ∷ 0 ∷ no-step }
   -- "in that order": an end is told before the limit, and the limit before the room
   pub end-first : (rest others : List ℕ) (work : Sheet) (v : Values) (t w : Sheet) → 3 ≤ holds work → RunsWith limit (sheet (1 ∷ 0 ∷ 4 ∷ 1 ∷ 0 ∷ 0 ∷ rest) (3 ∷ 1 ∷ 1 ∷ others)) 3 work 0 v t w → v ≡ record { refusal = 0; values = 1 ∷ 3 ∷ 0 ∷ no-step }
-  pub limit-first : {table : Sheet} {count : ℕ} (work : Sheet) (v : Values) (t w : Sheet) → Held limit table count (program-of (twice 4)) → Lent table 39 20 → Lent work 39 20 → RunsWith limit table count work 0 v t w →
+  pub limit-first : {table : Sheet} {count : ℕ} (work : Sheet) (v : Values) (t w : Sheet) → Held limit table count (program-of (twice 4)) → LentLengths table 39 20 → LentLengths work 39 20 → RunsWith limit table count work 0 v t w →
       v ≡ record { refusal = 0; values = 2 ∷ 18 ∷ 0 ∷ no-step }
   -- "else the next result exceeds the room": 18 nodes become 20, in two tables of 20 nodes with columns of 20, and where one of the four is a number shorter
-  pub room-in : {table : Sheet} {count : ℕ} (work : Sheet) (v : Values) (t w : Sheet) → Held limit table count (program-of (twice 4)) → Lent table 40 20 → Lent work 40 20 → RunsWith limit table count work 1 v t w →
+  pub room-in : {table : Sheet} {count : ℕ} (work : Sheet) (v : Values) (t w : Sheet) → Held limit table count (program-of (twice 4)) → LentLengths table 40 20 → LentLengths work 40 20 → RunsWith limit table count work 1 v t w →
       v ≡ record { refusal = 0; values = 2 ∷ 20 ∷ 1 ∷ one-beta }
-  pub table-short : {table : Sheet} {count : ℕ} (work : Sheet) (v : Values) (t w : Sheet) → Held limit table count (program-of (twice 4)) → Lent table 39 20 → Lent work 40 20 → RunsWith limit table count work 1 v t w →
+  pub table-short : {table : Sheet} {count : ℕ} (work : Sheet) (v : Values) (t w : Sheet) → Held limit table count (program-of (twice 4)) → LentLengths table 39 20 → LentLengths work 40 20 → RunsWith limit table count work 1 v t w →
       v ≡ record { refusal = 0; values = 3 ∷ 18 ∷ 0 ∷ no-step }
-  pub column-short : {table : Sheet} {count : ℕ} (work : Sheet) (v : Values) (t w : Sheet) → Held limit table count (program-of (twice 4)) → Lent table 40 19 → Lent work 40 20 → RunsWith limit table count work 1 v t w →
+  pub column-short : {table : Sheet} {count : ℕ} (work : Sheet) (v : Values) (t w : Sheet) → Held limit table count (program-of (twice 4)) → LentLengths table 40 19 → LentLengths work 40 20 → RunsWith limit table count work 1 v t w →
       v ≡ record { refusal = 0; values = 3 ∷ 18 ∷ 0 ∷ no-step }
-  pub work-short : {table : Sheet} {count : ℕ} (work : Sheet) (v : Values) (t w : Sheet) → Held limit table count (program-of (twice 4)) → Lent table 40 20 → Lent work 39 20 → RunsWith limit table count work 1 v t w →
+  pub work-short : {table : Sheet} {count : ℕ} (work : Sheet) (v : Values) (t w : Sheet) → Held limit table count (program-of (twice 4)) → LentLengths table 40 20 → LentLengths work 39 20 → RunsWith limit table count work 1 v t w →
       v ≡ record { refusal = 0; values = 3 ∷ 18 ∷ 0 ∷ no-step }
-  pub work-column-short : {table : Sheet} {count : ℕ} (work : Sheet) (v : Values) (t w : Sheet) → Held limit table count (program-of (twice 4)) → Lent table 40 20 → Lent work 40 19 → RunsWith limit table count work 1 v t w →
+  pub work-column-short : {table : Sheet} {count : ℕ} (work : Sheet) (v : Values) (t w : Sheet) → Held limit table count (program-of (twice 4)) → LentLengths table 40 20 → LentLengths work 40 19 → RunsWith limit table count work 1 v t w →
       v ≡ record { refusal = 0; values = 3 ∷ 18 ∷ 0 ∷ no-step }
   -- "and 2,048", however long the tables and columns are
   pub limit-in : {table : Sheet} {count : ℕ} (work : Sheet) (v : Values) (t w : Sheet) → Held limit table count (program-of (twice 1018)) → 2500 ≤ holds table → 2500 ≤ holds work → RunsWith limit table count work 1 v t w →

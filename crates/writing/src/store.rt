@@ -11,7 +11,7 @@ use calculus::Refusal;
 use column::check::check_with;
 use table::Checked;
 
-// Writes the text of the program in a table whose column is right. The scratch is lent; the limit is the node limit.
+// Writes the text of the program in a table with its column. The scratch is lent; the limit is the node limit.
 pub fn write(
     t: &[u16],
     column: &[u16],
