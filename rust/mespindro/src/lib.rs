@@ -33,9 +33,8 @@
 //!
 //! **No call has a condition on what the buffers hold**: any bytes, any numbers, any columns, any lengths, any counts. Each ends with its result
 //! or with a [`Refusal`], the first that applies in the order that is said for the call, and a refused call has changed nothing. This is proved
-//! of the code in the archive. Not proved are the compiler's back end, this
-//! binding, and that there is enough stack: docs/LIMITS.md has what each call takes, some 37 kilobytes for a read and up to some 190 for a step or
-//! a run of the deepest programs.
+//! of the code in the archive. Not proved are the compiler's back end, this binding, and that there is enough stack: docs/LIMITS.md has what each
+//! call takes, some 37 kilobytes for a read and up to some 190 for a step or a run of the deepest programs.
 //!
 //! **Panics**: none with the archive of this version. An answer that no call of it gives, as from an archive of another version that was put
 //! in its place, is not handed on.
