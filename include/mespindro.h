@@ -20,11 +20,37 @@
  * Nothing is allocated and nothing is kept between two calls; there is no static data. Calls may be made from several threads of execution at
  * once, if no buffer that one of them writes is in use by another; a table that is only read may be shared, with its column.
  *
+ * Every call is there at two sizes, with the same arguments, answers and refusals. The plain names are the large ones; those with `small` are
+ * for a task with little stack, since a call's own arrays grow with its size:
+ *
+ *                                               mespindro_read, ..   mespindro_small_read, ..
+ *     nodes of a program, and of a run's room   16,384               2,048
+ *     bytes of a text                           196,608              24,576
+ *     free variables, locations and indices     0 to 16,383          0 to 2,047
+ *     constructors                              0 to 65,535          0 to 65,535
+ *     kilobytes of stack (x86-64): read         296                  38
+ *       write, standing, thread                 34                   5
+ *       step, run, and more by nesting          100                  14
+ *
+ * What is right at the small size is right at the large one: a text that the small read accepts is read as the same table, and a table that the
+ * small calls take is written as the same text. Its run is the same at both sizes in the same lent tables and columns, if one of these holds
+ * at most 2,048 nodes; in larger ones the large run goes on where the small one stops by room. A single step differs only where its result has
+ * over 2,048 nodes: the small one is refused with 7. A text that only the large read accepts is refused by the small one with 2, 5 or 7, and a
+ * table that only the large calls take with 1: never is it taken for another program. One table may be handed to calls of both sizes.
+ *
+ * A caller that was compiled with the header of the one size of 2,048 nodes lends tables of 4,096 numbers, and sees the same runs of what it
+ * read before; but the stack of its calls has grown. Where there is none to spare it is to call the small ones instead.
+ *
  * What the caller owes, otherwise anything may happen: every pointer is valid for its length, and not NULL even where the length is 0; a
  * uint16_t pointer is aligned to 2; no buffer has more than PTRDIFF_MAX bytes; the buffers of one call do not overlap (a step's output is not
  * its table, and no column is another's or a part of a table); there is enough stack (docs/LIMITS.md). A length counts elements: bytes of a
  * text, numbers of a table or of a column. `const` buffers are read, the others written. Lengths above MESPINDRO_TABLE and MESPINDRO_COLUMN and
- * odd lengths are allowed, and so is a column that is shorter or longer than its table holds.
+ * odd lengths are allowed, at both sizes, and so is a column that is shorter or longer than its table holds.
+ *
+ * No call asks how much stack there is. Each writes to every page (4,096 bytes) of its arrays from the top down before it uses them, and no
+ * other frame is as long as a page: where the stack ends in a guard page a call that has too little faults there and has written nothing
+ * beyond it. Where there is no such page, as in a task of a small system, it writes over what lies below the stack. This is seen in the machine
+ * code of both archives and tried, not proved.
  *
  * Every call then ends, whatever bytes, numbers, counts and limits it is given. It gives its result, with `refusal` 0, or it is refused: then
  * `refusal` is the first number of the call's list that applies, every other field is 0, and no buffer has changed, no column either. Each
@@ -67,20 +93,27 @@ extern "C" {
 #endif
 
 /* The most nodes of a program, the most bytes of its text, and the numbers of a table and of a column that hold every program. */
-#define MESPINDRO_NODES 2048
-#define MESPINDRO_TEXT 24576
-#define MESPINDRO_TABLE 4096
-#define MESPINDRO_COLUMN 2048
+#define MESPINDRO_NODES 16384
+#define MESPINDRO_TEXT 196608
+#define MESPINDRO_TABLE 32768
+#define MESPINDRO_COLUMN 16384
 
-/* Kinds: the first number of a node. The second one is 0 but where it is said. The parts follow in the table. */
+/* The same for the small calls. */
+#define MESPINDRO_SMALL_NODES 2048
+#define MESPINDRO_SMALL_TEXT 24576
+#define MESPINDRO_SMALL_TABLE 4096
+#define MESPINDRO_SMALL_COLUMN 2048
+
+/* Kinds: the first number of a node. The second one is 0 but where it is said; "below the limit" is 0 to 16,383, and 0 to 2,047 for the small
+ * calls. The parts follow in the table. */
 enum {
     MESPINDRO_EMPTY = 0,        /* the end of a list of alternatives */
     MESPINDRO_ALTERNATIVE = 1,  /* parts: a term, the rest of the list */
-    MESPINDRO_BOUND = 2,        /* number: the binders (kinds 5, 6, 8) between it and its own */
-    MESPINDRO_FREE = 3,         /* number: the variable, 0 to 2,047 */
+    MESPINDRO_BOUND = 2,        /* number: the binders (kinds 5, 6, 8) between it and its own, below the limit */
+    MESPINDRO_FREE = 3,         /* number: the variable, below the limit */
     MESPINDRO_CONSTRUCTOR = 4,  /* number: the constructor, 0 to 65,535; 0 is ok */
     MESPINDRO_ABSTRACTION = 5,  /* part: a list of alternatives */
-    MESPINDRO_ALLOCATED = 6,    /* number: the location, 0 to 2,047; part: a list of alternatives */
+    MESPINDRO_ALLOCATED = 6,    /* number: the location, below the limit; part: a list of alternatives */
     MESPINDRO_APPLICATION = 7,  /* parts: two terms */
     MESPINDRO_FRESH = 8,        /* part: a term */
     MESPINDRO_GUARD = 9,        /* parts: two terms */
@@ -90,13 +123,13 @@ enum {
 /* Refusals. */
 enum {
     MESPINDRO_ACCEPTED = 0,
-    MESPINDRO_NO_PROGRAM = 1,      /* the table does not hold one program of `count` nodes */
-    MESPINDRO_TOO_LONG = 2,        /* the text is longer than 24,576 bytes */
+    MESPINDRO_NO_PROGRAM = 1,      /* the table does not hold one program of `count` nodes within the limits of the call */
+    MESPINDRO_TOO_LONG = 2,        /* the text is longer than 196,608 bytes, for a small call 24,576 */
     MESPINDRO_NOT_CANONICAL = 3,   /* the text is not exactly one canonical S-expression: a trailing newline is enough */
     MESPINDRO_OUT_OF_PLACE = 4,    /* a list or an atom stands where none may: unknown tag, wrong number of members */
     MESPINDRO_BAD_NUMBER = 5,      /* a number is not a plain decimal or is out of its range */
     MESPINDRO_NO_BINDER = 6,       /* a bound variable has no binder */
-    MESPINDRO_TOO_MANY_NODES = 7,  /* the program read, or a single step's result, has over 2,048 nodes */
+    MESPINDRO_TOO_MANY_NODES = 7,  /* the program read, or a single step's result, has over 16,384 nodes, for a small call 2,048 */
     MESPINDRO_INCOHERENT = 8,      /* one location with two bodies in a thread, or a body that reaches a binder around it */
     MESPINDRO_NO_ROOM = 9,         /* the result does not fit the output or its column; a run's program not the work table or its column */
     MESPINDRO_NO_THREAD = 10,      /* there is no thread of that number */
@@ -177,22 +210,23 @@ struct mespindro_part {
 struct mespindro_count mespindro_read(const uint8_t *text, size_t text_length, uint16_t *out, size_t out_length, uint16_t *column,
                                       size_t column_length);
 
-/* Writes the text of the program in a table. 24,576 bytes hold every text. Refuses 1, 14, 6, 8, 9. */
+/* Writes the text of the program in a table. A node takes at most 12 bytes: 196,608 hold every text. Refuses 1, 14, 6, 8, 9. */
 struct mespindro_count mespindro_write(const uint16_t *table, size_t table_length, const uint16_t *column, size_t column_length, size_t count,
                                        uint8_t *out, size_t out_length);
 
 /* One step: the program after it with its column, by which rule, in which thread. Refuses 1, 14, 6, 7, 8, 9, 11; 9 where the output or its
- * column is too short. The stack of a step and of a run grows with nesting, to some 190 kilobytes on the deepest programs of 2,048 nodes that
- * were tried; shorter tables bound it. docs/LIMITS.md says which calls fit a stack of 16 KiB, on which programs. */
+ * column is too short. The stack of a step and of a run grows with nesting, to some 1.5 megabytes on the deepest programs of 16,384 nodes that
+ * were tried, and to some 190 kilobytes with the small calls on those of 2,048; shorter tables bound it. docs/LIMITS.md says which of the
+ * small calls fit a stack of 16 KiB, on which programs. */
 struct mespindro_move mespindro_step(const uint16_t *table, size_t table_length, const uint16_t *column, size_t column_length, size_t count,
                                      uint16_t *out, size_t out_length, uint16_t *out_column, size_t out_column_length);
 
 /* Runs the program in a table for at most `most` steps. Its room is the least of table_length / 2, column_length, work_length / 2,
- * work_column_length and 2,048 nodes. Accepted, the table holds the end program and then zeros to its very end, its column that program's
- * entries and then zeros to its very end, and the work table and its column zeros only. A run that stopped by steps or by room goes on when it
- * is called again with `nodes` as the count (after room: in larger tables and columns); `steps` and `counts` are of the one call. It cannot be
- * interrupted: choose `most` so that a call is short enough. Refuses 1, 14, 6, 8, 9; 9 where the work table or its column is too short for the
- * program, while the table's own column is too short by 14. */
+ * work_column_length and 16,384 nodes, of a small run 2,048. Accepted, the table holds the end program and then zeros to its very end, its
+ * column that program's entries and then zeros to its very end, and the work table and its column zeros only. A run that stopped by steps or
+ * by room goes on when it is called again with `nodes` as the count (after room: in larger tables and columns); `steps` and `counts` are of
+ * the one call. It cannot be interrupted: choose `most` so that a call is short enough. Refuses 1, 14, 6, 8, 9; 9 where the work table or its
+ * column is too short for the program, while the table's own column is too short by 14. */
 struct mespindro_stop mespindro_run(uint16_t *table, size_t table_length, uint16_t *column, size_t column_length, size_t count, uint16_t *work,
                                     size_t work_length, uint16_t *work_column, size_t work_column_length, uint32_t most);
 
@@ -204,6 +238,20 @@ struct mespindro_stand mespindro_standing(const uint16_t *table, size_t table_le
  * refuses; that call tells the number. */
 struct mespindro_part mespindro_thread(const uint16_t *table, size_t table_length, const uint16_t *column, size_t column_length, size_t count,
                                        size_t k);
+
+/* The same six at the small size: 2,048 nodes. */
+struct mespindro_count mespindro_small_read(const uint8_t *text, size_t text_length, uint16_t *out, size_t out_length, uint16_t *column,
+                                            size_t column_length);
+struct mespindro_count mespindro_small_write(const uint16_t *table, size_t table_length, const uint16_t *column, size_t column_length,
+                                             size_t count, uint8_t *out, size_t out_length);
+struct mespindro_move mespindro_small_step(const uint16_t *table, size_t table_length, const uint16_t *column, size_t column_length,
+                                           size_t count, uint16_t *out, size_t out_length, uint16_t *out_column, size_t out_column_length);
+struct mespindro_stop mespindro_small_run(uint16_t *table, size_t table_length, uint16_t *column, size_t column_length, size_t count,
+                                          uint16_t *work, size_t work_length, uint16_t *work_column, size_t work_column_length, uint32_t most);
+struct mespindro_stand mespindro_small_standing(const uint16_t *table, size_t table_length, const uint16_t *column, size_t column_length,
+                                                size_t count, size_t k);
+struct mespindro_part mespindro_small_thread(const uint16_t *table, size_t table_length, const uint16_t *column, size_t column_length,
+                                             size_t count, size_t k);
 
 #ifdef __cplusplus
 }

@@ -6,7 +6,7 @@
 # Shorter answers are one number or two, in the same registers' order on both.
 
 BEGIN {
-    name = "@mespindro_[a-z]+"
+    name = "@mespindro_[a-z_]+"
     number = "(ptr|i64|i32) noundef %a[0-9]+"
     behind = "(, " number ")*[)] #[0-9]+ [{]$"
 }

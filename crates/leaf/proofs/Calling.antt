@@ -19,7 +19,7 @@ use Rattle.calculus.proofs.Runs.{program-run-only}
 use Rattle.calculus.proofs.Outcomes.{table-of-unique}
 use Rattle.writing.specs.Writer.{numeral, Wrote}
 use Rattle.promises.proofs.Admitted.{accepted}
-use Rattle.mespindro.specs.Limit.{limit}
+use Rattle.small.specs.Limit.{small-limit}
 use Rattle.promises.specs.Worked.{Held, HasRead, HasRun}
 use Rattle.promises.proofs.Worked.{read-gives, run-gives, good-runs}
 use Rattle.promises.proofs.Refused.{reads-exactly, read-length}
@@ -41,17 +41,17 @@ abbrev pub stopped : Reason → ℕ → ℕ → Counts → Values
 stopped r m k c = record { refusal = 0; values = reasonCode r ∷ m ∷ k ∷ six c }
 
 -- The run of the program in the table, in a work table that holds as much, for so many steps as are allowed.
-module _ {table : Sheet} {count : ℕ} {work : Sheet} {allowed : ℕ} {v : Values} {t w : Sheet} (h : Loaded limit table count) (long : holds work ≡ limit) (c : RunsWith limit table count work allowed v t w) where
+module _ {table : Sheet} {count : ℕ} {work : Sheet} {allowed : ℕ} {v : Values} {t w : Sheet} (h : Loaded small-limit table count) (long : holds work ≡ small-limit) (c : RunsWith small-limit table count work allowed v t w) where
   abbrev loaded-end : End (List (Tree term))
-  loaded-end = run limit allowed (threads (h .good-there .program-there))
+  loaded-end = run small-limit allowed (threads (h .good-there .program-there))
 
-  room-is : room-of limit table work ≡ limit
+  room-is : room-of small-limit table work ≡ small-limit
   room-is = let a = h .wide in let b = h .long in omega arith
 
-  run-values : v ≡ ran-values loaded-end (run-counts limit allowed (threads (h .good-there .program-there)))
+  run-values : v ≡ ran-values loaded-end (run-counts small-limit allowed (threads (h .good-there .program-there)))
   run-values = let g = h .good-there in rw room-is at (good-runs (g .held) (g .good) (omega (arith, g .held .table-of .small)) c .0)
 
-  has-run : HasRun limit table count work allowed v t w
+  has-run : HasRun small-limit table count work allowed v t w
   has-run = run-gives c (ap (λ (x : Values). x .refusal) run-values)
 
   end-is : has-run .end ≡ loaded-end
@@ -72,57 +72,57 @@ module _ {table : Sheet} {count : ℕ} {work : Sheet} {allowed : ℕ} {v : Value
     pub run-few : k ≤ allowed
     run-few = omega (arith, value 2, has-run .is-run .within)
 
-    end-there : Held limit t m (program-of (has-run .end .last))
+    end-there : Held small-limit t m (program-of (has-run .end .last))
     end-there = rw (value 1) (has-run .back)
 
     -- the table holds the end, a good program
-    pub run-holds : HoldsGood limit t m
+    pub run-holds : HoldsGood small-limit t m
     run-holds = record { program-there = program-of (has-run .end .last); held = end-there; good = has-run .result-good }
 
     end-told : _≡_ {A = End (List (Tree term))} (record { reason = r; taken = k; last = has-run .end .last }) (has-run .end)
     end-told = rw (reason-is, value 2)
 
     -- its report is that of the run
-    pub run-written : {out after : List ℕ} {next : ℕ} → EndWritten limit r k (t .numbers) m out after next → RunWritten limit allowed (table .numbers) count out after next
+    pub run-written : {out after : List ℕ} {next : ℕ} → EndWritten small-limit r k (t .numbers) m out after next → RunWritten small-limit allowed (table .numbers) count out after next
     run-written e = record {
       fits = e .fits;
       wrote = λ q s. rw (table-of-unique s (h .good-there .held .table-of), ← end-is, ← end-told) (e .wrote (has-run .end .last) (end-there .table-of));
     }
 
 -- The read of the text b into zeros.
-module _ {b : List ℕ} {v : Values} {t : Sheet} (c : Reads limit b (zeros limit) v t) where
+module _ {b : List ℕ} {v : Values} {t : Sheet} (c : Reads small-limit b (zeros small-limit) v t) where
   module _ {m : ℕ} (f : v ≡ accepted m) where
-    has-read : HasRead limit b (zeros limit) v t
+    has-read : HasRead small-limit b (zeros small-limit) v t
     has-read = read-gives c (ap (λ (x : Values). x .refusal) f)
 
     counts : nodes (has-read .program) ≡ m
     counts = ap (λ (l : List ℕ). getD l 0 0) (sym (has-read .values) ∙ ap (λ (x : Values). x .values) f)
 
-    read-there : Held limit t m (has-read .program)
+    read-there : Held small-limit t m (has-read .program)
     read-there = rw counts at (has-read .back)
 
     -- the table holds a good program
-    pub read-loaded : Loaded limit t m
+    pub read-loaded : Loaded small-limit t m
     read-loaded = record {
       good-there = record { program-there = has-read .program; held = read-there; good = has-read .good };
-      wide = read-length c .0 ∙ length-replicate {A = ℕ} (2 * limit) 0;
-      long = read-length c .1 ∙ length-replicate {A = ℕ} limit 0;
+      wide = read-length c .0 ∙ length-replicate {A = ℕ} (2 * small-limit) 0;
+      long = read-length c .1 ∙ length-replicate {A = ℕ} small-limit 0;
     }
 
     -- the report of its run is the text's
-    pub run-reported : {out after : List ℕ} {next : ℕ} → RunWritten limit most (t .numbers) m out after next → Reported limit most b out next after
+    pub run-reported : {out after : List ℕ} {next : ℕ} → RunWritten small-limit most (t .numbers) m out after next → Reported small-limit most b out next after
     run-reported {out} {after} {next} w =
         let p = has-read .program in
         let u = w .wrote p (read-there .table-of) in
         record {
-          written = report (run limit most (threads p));
+          written = report (run small-limit most (threads p));
           reports = reported p (reads-exactly c .accepted-only (ap (λ (x : Values). x .refusal) f)) (record { is = has-read .is; ranges = has-read .good .ranges });
           counts = omega (arith, u);
           is = wrote-front u (w .fits);
         }
 
   -- the report of a refusal is the text's
-  pub refusal-reported : (r : Refusal) {out after : List ℕ} {next : ℕ} → v .refusal ≡ number r → longest ≤ length out → Wrote out after 0 next (refusal-report r) → Reported limit most b out next after
+  pub refusal-reported : (r : Refusal) {out after : List ℕ} {next : ℕ} → v .refusal ≡ number r → longest ≤ length out → Wrote out after 0 next (refusal-report r) → Reported small-limit most b out next after
   refusal-reported r f l u = record {
     written = refusal-report r;
     reports = refused r (reads-exactly c .refused-only r f);

@@ -23,8 +23,8 @@ use Rattle.calculus.proofs.Exclusions.{self-application, self-application-retur
 use Rattle.calculus.proofs.Ends.{report-example, refusal-example}
 use Rattle.promises.proofs.Admitted.{good-read}
 use Rattle.promises.proofs.Refused.{reads-exactly}
-use Rattle.promises.proofs.Boundaries.{not-empty}
-use Rattle.mespindro.specs.Limit.{limit}
+use Rattle.promises.proofs.Samples.{not-empty}
+use Rattle.small.specs.Limit.{small-limit}
 use Rattle.promises.proofs.Excluded.{closures, OneAtMost, one-good}
 use Rattle.leaf.specs.Reported.{most}
 use Rattle.leaf.proofs.Shapes.{room-report, two-steps-report}
@@ -36,9 +36,9 @@ good-reports {n} {k} {p} l g =
     reported p (reads-exactly (good-read g (zeros n) l (omega (arith, g .small, zeros-hold n))) .accepted-only refl) (record { is = refl; ranges = g .ranges })
 
 -- with its run and the report of that in hand
-run-reports : (ts : List (Tree term)) {e : End (List (Tree term))} {w : List ℕ} → Good limit (program-of ts) → run limit most ts ≡ e → report e ≡ w → Reports limit most (text (program-of ts)) w
+run-reports : (ts : List (Tree term)) {e : End (List (Tree term))} {w : List ℕ} → Good small-limit (program-of ts) → run small-limit most ts ≡ e → report e ≡ w → Reports small-limit most (text (program-of ts)) w
 run-reports ts {e} {w} g r h =
-    let q : report (run limit most (threads (program-of ts))) ≡ w = ap (λ (l : List (Tree term)). report (run limit most l)) (threads-of-program ts) ∙ ap report r ∙ h in
+    let q : report (run small-limit most (threads (program-of ts))) ≡ w = ap (λ (l : List (Tree term)). report (run small-limit most l)) (threads-of-program ts) ∙ ap report r ∙ h in
     rw q at (good-reports {k = most} (omega arith) g)
 
 -- By steps: `(L 0 ((a b0 b0)))` applied to itself, which its step returns.
@@ -54,7 +54,7 @@ self-holds : (l : ℕ) (q : Tree program) → Holds l q self-application → q �
 self-holds l q (inl h) = half l q h
 self-holds l q (inr h) = half l q h
 
-self-good : Good limit (program-of (self-application ∷ []))
+self-good : Good small-limit (program-of (self-application ∷ []))
 unfolding nodes program-of threads
 self-good = record {
   small = omega arith;
@@ -63,9 +63,9 @@ self-good = record {
   coherent = (record { within = λ l p h. rw (self-holds l p h) (omega arith); equal = λ l p q h k. self-holds l p h ∙ sym (self-holds l q k) }, tt);
 }
 
-self-run : run limit most (self-application ∷ []) ≡ record { reason = Steps; taken = most; last = self-application ∷ [] }
+self-run : run small-limit most (self-application ∷ []) ≡ record { reason = Steps; taken = most; last = self-application ∷ [] }
 unfolding nodes program-of next-program run
-self-run = run-returns next-program size limit most (rw self-application-returns) (omega arith)
+self-run = run-returns next-program size small-limit most (rw self-application-returns) (omega arith)
 
 self-text : text (program-of (self-application ∷ [])) ≡ ascii "((1:a(1:L1:0((1:a(1:v1:0)(1:v1:0))))(1:L1:0((1:a(1:v1:0)(1:v1:0))))))"
 unfolding ascii program-of digits decimal bytes encode raw raw-text text
@@ -76,7 +76,7 @@ unfolding report ascii program-of digits decimal bytes encode raw
 self-report = refl
 
 -- "runs 10,000 steps"; "The other reasons are the atoms `5:steps` and `4:room`"
-pub steps-reports : Reports limit most (ascii "((1:a(1:L1:0((1:a(1:v1:0)(1:v1:0))))(1:L1:0((1:a(1:v1:0)(1:v1:0))))))") (ascii "(5:steps5:10000((1:a(1:L1:0((1:a(1:v1:0)(1:v1:0))))(1:L1:0((1:a(1:v1:0)(1:v1:0)))))))")
+pub steps-reports : Reports small-limit most (ascii "((1:a(1:L1:0((1:a(1:v1:0)(1:v1:0))))(1:L1:0((1:a(1:v1:0)(1:v1:0))))))") (ascii "(5:steps5:10000((1:a(1:L1:0((1:a(1:v1:0)(1:v1:0))))(1:L1:0((1:a(1:v1:0)(1:v1:0)))))))")
 steps-reports = rw (← self-text) (run-reports (self-application ∷ []) self-good self-run self-report)
 
 -- By room: an allocated abstraction whose body mentions its variable often, applied to a structure.
@@ -105,26 +105,26 @@ heap m = applied m (con 1) (con 1)
 abbrev heaped : Tree term → ℕ → List (Tree term)
 heaped t m = two app (abs (at 0) (only t)) (heap m) ∷ []
 
-heaped-good : (t : Tree term) (m : ℕ) → size (heaped t m) ≤ limit → InRange limit t → Closed 1 t → All (λ u. OneAtMost (closures u)) (heaped t m) → Good limit (program-of (heaped t m))
+heaped-good : (t : Tree term) (m : ℕ) → size (heaped t m) ≤ small-limit → InRange small-limit t → Closed 1 t → All (λ u. OneAtMost (closures u)) (heaped t m) → Good small-limit (program-of (heaped t m))
 unfolding program-of
-heaped-good t m l r c o = one-good (heaped t m) l (((omega arith, (r, tt)), applied-ranges limit (con 1) (con 1) (omega arith) (omega arith) m), tt) (((c, tt), applied-closed 0 (con 1) (con 1) tt tt m), tt) o
+heaped-good t m l r c o = one-good (heaped t m) l (((omega arith, (r, tt)), applied-ranges small-limit (con 1) (con 1) (omega arith) (omega arith) m), tt) (((c, tt), applied-closed 0 (con 1) (con 1) tt tt m), tt) o
 
 -- `((a (L 0 ((a .. (a c1 b0) .. b0))) (a .. (a c1 c1) .. c1)))` with 31 times b0 and 32 times c1: the step's result would have 2,049 nodes
 abbrev crowd : List (Tree term)
 crowd = heaped (applied 31 (con 1) (bound 0)) 32
 
-crowd-good : Good limit (program-of crowd)
+crowd-good : Good small-limit (program-of crowd)
 unfolding nodes program-of closures applied
 crowd-good =
     let c = applied-closed 1 (con 1) (bound 0) tt (omega arith) 31 in
-    heaped-good (applied 31 (con 1) (bound 0)) 32 (omega arith) (applied-ranges limit (con 1) (bound 0) (omega arith) (omega arith) 31) c ((c, tt), tt)
+    heaped-good (applied 31 (con 1) (bound 0)) 32 (omega arith) (applied-ranges small-limit (con 1) (bound 0) (omega arith) (omega arith) 31) c ((c, tt), tt)
 
-crowd-run : run limit most crowd ≡ record { reason = Room; taken = 0; last = crowd }
+crowd-run : run small-limit most crowd ≡ record { reason = Room; taken = 0; last = crowd }
 unfolding applied nodes program-of threads put-in single structure value plug own redexes rewriting first step-thread step next-program run
-crowd-run = run-large next-program size {s = crowd} {q = applied 31 (con 1) (heap 32) ∷ []} limit (most - 1) refl (omega arith)
+crowd-run = run-large next-program size {s = crowd} {q = applied 31 (con 1) (heap 32) ∷ []} small-limit (most - 1) refl (omega arith)
 
 -- the next result exceeds the 2,048 nodes
-pub room-reports : Reports limit most (text (program-of crowd)) (ascii "(4:room1:0" ++ (text (program-of crowd) ++ ascii ")"))
+pub room-reports : Reports small-limit most (text (program-of crowd)) (ascii "(4:room1:0" ++ (text (program-of crowd) ++ ascii ")"))
 room-reports = run-reports crowd crowd-good crowd-run (room-report crowd)
 
 -- `((a (L 0 ((n (a .. (a c1 b1) .. b1)))) (a .. (a c1 c1) .. c1)))` with 14 times b1 and 72 times c1: the first step's result has 2,048 nodes
@@ -137,20 +137,20 @@ full-next = fresh (applied 14 (con 1) (heap 72)) ∷ []
 abbrev full-end : List (Tree term)
 full-end = applied 14 (con 1) (heap 72) ∷ []
 
-full-good : Good limit (program-of full)
+full-good : Good small-limit (program-of full)
 unfolding nodes program-of closures applied
 full-good =
     let c = applied-closed 2 (con 1) (bound 1) tt (omega arith) 14 in
-    heaped-good (fresh (applied 14 (con 1) (bound 1))) 72 (omega arith) (applied-ranges limit (con 1) (bound 1) (omega arith) (omega arith) 14) c ((c, tt), tt)
+    heaped-good (fresh (applied 14 (con 1) (bound 1))) 72 (omega arith) (applied-ranges small-limit (con 1) (bound 1) (omega arith) (omega arith) 14) c ((c, tt), tt)
 
-full-run : run limit most full ≡ record { reason = Ended; taken = 2; last = full-end }
+full-run : run small-limit most full ≡ record { reason = Ended; taken = 2; last = full-end }
 unfolding applied nodes program-of threads uses put-in single structure value plug own redexes least-from variable-for rewriting first step-thread step next-program run
 full-run =
-    run-goes next-program size {s = full} {q = full-next} limit (most - 1) refl (omega arith)
-    ∙ ap (later next-program size) (run-goes next-program size {s = full-next} {q = full-end} limit (most - 2) refl (omega arith) ∙ ap (later next-program size) (run-ended next-program size {s = full-end} limit (most - 2) refl))
+    run-goes next-program size {s = full} {q = full-next} small-limit (most - 1) refl (omega arith)
+    ∙ ap (later next-program size) (run-goes next-program size {s = full-next} {q = full-end} small-limit (most - 2) refl (omega arith) ∙ ap (later next-program size) (run-ended next-program size {s = full-end} small-limit (most - 2) refl))
 
 -- a result of as many nodes as there is room for is taken
-pub full-reports : Reports limit most (text (program-of full)) (ascii "(5:ended1:2" ++ (text (program-of full-end) ++ ascii ")"))
+pub full-reports : Reports small-limit most (text (program-of full)) (ascii "(5:ended1:2" ++ (text (program-of full-end) ++ ascii ")"))
 full-reports = run-reports full full-good full-run (two-steps-report full-end)
 
 -- Document 01's two examples.
@@ -159,7 +159,7 @@ full-reports = run-reports full full-good full-run (two-steps-report full-end)
 abbrev example : List (Tree term)
 example = fresh (two guard (two unif (bound 0) (con 1)) (bound 0)) ∷ []
 
-example-good : Good limit (program-of example)
+example-good : Good small-limit (program-of example)
 unfolding nodes program-of closures
 example-good = one-good example (omega arith) (omega arith) (omega arith) (tt, tt)
 
@@ -168,9 +168,9 @@ unfolding ascii program-of digits decimal bytes encode raw raw-text text
 example-text = refl
 
 -- "Input `((1:n(1:g(1:u(1:v1:0)(1:c1:1))(1:v1:0))))` (41 bytes) gives `(5:ended1:3((1:c1:1)))`"
-pub example-reports : Reports limit most (ascii "((1:n(1:g(1:u(1:v1:0)(1:c1:1))(1:v1:0))))") (ascii "(5:ended1:3((1:c1:1)))")
+pub example-reports : Reports small-limit most (ascii "((1:n(1:g(1:u(1:v1:0)(1:c1:1))(1:v1:0))))") (ascii "(5:ended1:3((1:c1:1)))")
 example-reports = rw (← example-text) (run-reports example example-good refl report-example)
 
 -- "empty input gives `(7:refused1:3)`"
-pub empty-reports : Reports limit most [] (ascii "(7:refused1:3)")
+pub empty-reports : Reports small-limit most [] (ascii "(7:refused1:3)")
 empty-reports = rw (← refusal-example) (refused NotCanonical (inr ((λ h. omega arith), inl (not-empty, refl))))

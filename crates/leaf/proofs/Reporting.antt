@@ -16,7 +16,7 @@ use Rattle.calculus.proofs.Texts.{text-length}
 use Rattle.calculus.proofs.Outcomes.{table-of-unique}
 use Rattle.writing.specs.Writer.{numeral, BytesFit, Wrote}
 use Rattle.promises.proofs.Admitted.{accepted}
-use Rattle.mespindro.specs.Limit.{limit}
+use Rattle.small.specs.Limit.{small-limit}
 use Rattle.promises.proofs.Worked.{good-writes}
 use Rattle.leaf.specs.Reported.{longest}
 use Rattle.leaf.specs.Written.{reasonAtom, startBytes, HoldsGood, EndWritten}
@@ -71,12 +71,12 @@ start-length : (r : Reason) (k : ℕ) → k < 65536 → length (startBytes r k) 
 start-length r k h = omega (arith, length-append (reasonAtom r) (numeral k), reason-length r, numeral-length k h)
 
 -- The end program: its text goes into the part of the output behind the start.
-module _ (r : Reason) (k : ℕ) {table : Sheet} {count : ℕ} {out o : List ℕ} {at : ℕ} (h : HoldsGood limit table count) (l : longest ≤ length out) (small : k < 65536) (w : Wrote out o 0 at (startBytes r k)) where
+module _ (r : Reason) (k : ℕ) {table : Sheet} {count : ℕ} {out o : List ℕ} {at : ℕ} (h : HoldsGood small-limit table count) (l : longest ≤ length out) (small : k < 65536) (w : Wrote out o 0 at (startBytes r k)) where
   -- there is such a part
   pub start-fits : at ≤ 15
   start-fits = omega (arith, start-length r k small)
 
-  module _ {v : Values} {e : List ℕ} (c : Writes limit table count (lent o at) v e) where
+  module _ {v : Values} {e : List ℕ} (c : Writes small-limit table count (lent o at) v e) where
     worked : (v ≡ accepted (length (text (h .program-there)))) × (e ≡ front (text (h .program-there)) (lent o at))
     worked = good-writes (h .held) (h .good) (omega arith) (omega (arith, start-fits, lent-length o at (omega (arith, start-fits)))) c
 
@@ -89,8 +89,8 @@ module _ (r : Reason) (k : ℕ) {table : Sheet} {count : ℕ} {out o : List ℕ}
       counts = ap (λ (v : Values). getD (v .values) 0 0) (sym f ∙ worked .0)
 
       -- the report is short
-      pub end-small : at + m ≤ 12 * limit + 15
-      end-small = let g = h .good in omega (arith, start-fits, counts, text-length limit (h .program-there) (omega arith) (g .ranges), g .small)
+      pub end-small : at + m ≤ 12 * small-limit + 15
+      end-small = let g = h .good in omega (arith, start-fits, counts, text-length small-limit (h .program-there) (omega arith) (g .ranges), g .small)
 
       text-wrote : Wrote o (given-back o at e) at (at + m) (text (h .program-there))
       text-wrote = rw (worked .1, counts) (part-wrote o at (text (h .program-there)) (omega (arith, end-small, counts)))
@@ -100,5 +100,5 @@ module _ (r : Reason) (k : ℕ) {table : Sheet} {count : ℕ} {out o : List ℕ}
       end-closing = record { fits = omega (arith, end-small, text-wrote) }
 
       -- which ends the report
-      pub end-written : {after : List ℕ} {next : ℕ} → Wrote (given-back o at e) after (at + m) next (41 ∷ []) → EndWritten limit r k (table .numbers) count out after next
+      pub end-written : {after : List ℕ} {next : ℕ} → Wrote (given-back o at e) after (at + m) next (41 ∷ []) → EndWritten small-limit r k (table .numbers) count out after next
       end-written u = record { fits = omega (arith, end-small); wrote = λ ts t. rw (report-is, table-of-unique t (h .held .table-of)) (wrote-more w (wrote-more text-wrote u)) }

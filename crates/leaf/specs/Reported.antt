@@ -5,7 +5,7 @@ use Prim.Native.Nat.{ℕ, _+_, _*_}
 use lib.ListN.{length, take}
 use Rattle.calculus.specs.Calls.{front}
 use Rattle.calculus.specs.Report.{Reports}
-use Rattle.mespindro.specs.Limit.{limit}
+use Rattle.small.specs.Limit.{small-limit}
 
 -- "runs 10,000 steps"
 abbrev pub most : ℕ
@@ -13,7 +13,7 @@ most = 10000
 
 -- the longest report: brackets, a reason of 7 bytes, a count of at most 7, the longest text
 abbrev pub longest : ℕ
-longest = 12 * limit + 16
+longest = 12 * small-limit + 16
 
 -- the report of the text b, with the node limit n and the step limit k, fills the front of the output; the rest is as it was
 pub record Reported (n k : ℕ) (b out : List ℕ) (count : ℕ) (after : List ℕ) : Type 0 where

@@ -3,7 +3,7 @@ mod report;
 
 use libc::STDIN_FILENO;
 use libc::STDOUT_FILENO;
-use mespindro::TEXT;
+use small::TEXT;
 
 // One byte past the longest text.
 const INPUT: usize = TEXT + 1;

@@ -4,7 +4,7 @@ ghost use lib.ListN.{length};
 ghost use Rattle.calculus.specs.Sheets.{sheet};
 ghost use Rattle.calculus.specs.Report.{refusal-report};
 ghost use Rattle.writing.specs.Writer.{BytesFit, Wrote};
-ghost use Rattle.mespindro.specs.Limit.{limit};
+ghost use Rattle.small.specs.Limit.{small-limit};
 ghost use Rattle.leaf.specs.Reported.{longest, most, Reported, ReportedWhole};
 ghost use Rattle.leaf.specs.Written.{reasonAtom, startBytes, HoldsGood, Loaded, EndWritten, RunWritten};
 use calculus::Counted;
@@ -12,8 +12,8 @@ use calculus::Ran;
 use calculus::Reason;
 use calculus::Refusal;
 use calculus::refusal_number;
-use mespindro::LIMIT;
-use mespindro::NUMBERS;
+use small::LIMIT;
+use small::NUMBERS;
 use writing::write::put;
 use writing::write::put_number;
 
@@ -73,12 +73,12 @@ fn put_end(
     nodes: usize,
     out: &mut [u8],
 ) -> usize
-    requires { ⌜ HoldsGood limit (sheet (now table) (now column)) nodes ⌝ }
+    requires { ⌜ HoldsGood small-limit (sheet (now table) (now column)) nodes ⌝ }
     requires { ⌜ longest ≤ length (now out) ⌝ }
-    ensures { λ r. ⌜ EndWritten limit reason steps (now (table .entry)) nodes (now (out .entry)) (now (out .exit)) r ⌝ }
+    ensures { λ r. ⌜ EndWritten small-limit reason steps (now (table .entry)) nodes (now (out .entry)) (now (out .exit)) r ⌝ }
 {
     let at = put_start(reason, steps, out);
-    match mespindro::write(table, column, nodes, &mut out[at..]) {
+    match small::write(table, column, nodes, &mut out[at..]) {
         Counted::Count(n) => put(out, at + n, b')'),
         // cannot be: the end of a run is written
         Counted::Refused(r) => put_refusal(r, out),
@@ -87,13 +87,13 @@ fn put_end(
 
 // The run of the program in the table, and its report.
 fn put_run(count: usize, table: &mut [u16], column: &mut [u16], out: &mut [u8]) -> usize
-    requires { ⌜ Loaded limit (sheet (now table) (now column)) count ⌝ }
+    requires { ⌜ Loaded small-limit (sheet (now table) (now column)) count ⌝ }
     requires { ⌜ longest ≤ length (now out) ⌝ }
-    ensures { λ r. ⌜ RunWritten limit most (now (table .entry)) count (now (out .entry)) (now (out .exit)) r ⌝ }
+    ensures { λ r. ⌜ RunWritten small-limit most (now (table .entry)) count (now (out .entry)) (now (out .exit)) r ⌝ }
 {
     let mut work = [0u16; NUMBERS];
     let mut work_column = [0u16; LIMIT];
-    match mespindro::run(
+    match small::run(
         table,
         column,
         count,
@@ -117,11 +117,11 @@ fn put_run(count: usize, table: &mut [u16], column: &mut [u16], out: &mut [u8]) 
 // The report of a text at the front of the output, and its length.
 fn report(text: &[u8], out: &mut [u8]) -> usize
     requires { ⌜ longest ≤ length (now out) ⌝ }
-    ensures { λ r. ⌜ Reported limit most (now (text .entry)) (now (out .entry)) r (now (out .exit)) ⌝ }
+    ensures { λ r. ⌜ Reported small-limit most (now (text .entry)) (now (out .entry)) r (now (out .exit)) ⌝ }
 {
     let mut table = [0u16; NUMBERS];
     let mut column = [0u16; LIMIT];
-    match mespindro::read(text, &mut table, &mut column) {
+    match small::read(text, &mut table, &mut column) {
         Counted::Count(n) => put_run(n, &mut table, &mut column, out),
         Counted::Refused(r) => put_refusal(r, out),
     }
@@ -129,10 +129,10 @@ fn report(text: &[u8], out: &mut [u8]) -> usize
 
 // The report of the whole input, of which the first `n` bytes of the buffer are as much as it holds.
 pub fn report_input(buffer: &[u8], n: usize, out: &mut [u8]) -> usize
-    requires { ⌜ 12 * limit < length (now buffer) ⌝ }
+    requires { ⌜ 12 * small-limit < length (now buffer) ⌝ }
     requires { ⌜ n ≤ length (now buffer) ⌝ }
     requires { ⌜ longest ≤ length (now out) ⌝ }
-    ensures { λ r. ⌜ ReportedWhole limit most (now (buffer .entry)) n (now (out .entry)) r (now (out .exit)) ⌝ }
+    ensures { λ r. ⌜ ReportedWhole small-limit most (now (buffer .entry)) n (now (out .entry)) r (now (out .exit)) ⌝ }
 {
     report(&buffer[..n], out)
 }

@@ -1,5 +1,5 @@
--- The node limit of the calls.
+-- "The library's limit goes from 2,048 to 16,384 nodes."
 use Prim.Native.Nat.{ℕ}
 
 abbrev pub limit : ℕ
-limit = 2048
+limit = 16384

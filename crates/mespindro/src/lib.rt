@@ -1,6 +1,4 @@
-// What a switch OS calls: six calls without a `requires`, for the node limit of 2,048. The scratch is theirs, on the stack.
-pub mod exports;
-
+// What a switch OS calls: six calls without a `requires`, for the node limit of 16,384. The scratch is theirs, on the stack.
 ghost use Rattle.calculus.specs.Answers.{countedValues, ranValues, steppedValues, stoodValues};
 ghost use Rattle.calculus.specs.Sheets.{sheet};
 ghost use Rattle.calculus.specs.Calls.{Reads, RunsWith, StandsAt, StepsInto, Writes};
@@ -12,7 +10,7 @@ use calculus::Stepped;
 use calculus::Stood;
 
 // The nodes of the largest program, and the entries of its column.
-pub const LIMIT: usize = 2048;
+pub const LIMIT: usize = 16384;
 
 // The numbers of a table of that many nodes, and the links of a thread.
 pub const NUMBERS: usize = 2 * LIMIT;
@@ -21,7 +19,7 @@ pub const NUMBERS: usize = 2 * LIMIT;
 pub const TEXT: usize = 12 * LIMIT;
 
 // What checking a table needs.
-const SCRATCH: usize = LIMIT + 2;
+pub const SCRATCH: usize = LIMIT + 2;
 
 // Reads a text into a table and its column: the nodes at its front, their trees' sizes at the column's; or 2 to 9.
 pub fn read(text: &[u8], out: &mut [u16], column: &mut [u16]) -> Counted

@@ -14,11 +14,11 @@ use Rattle.calculus.specs.Calls.{Reads, Writes, StepsInto, RunsWith, StandsAt}
 use Rattle.calculus.proofs.Answers.{same-refusal, same-value, six-injective, counted-once, stepped-once, ran-once, stood-once}
 use Rattle.calculus.proofs.Outcomes.{reads-once, writes-once, steps-once, runs-once, stands-once, parts-once}
 use Rattle.threads.specs.Places.{SpanOf, ThreadPart}
-use Rattle.mespindro.specs.declared.exports.Count.{Count}
-use Rattle.mespindro.specs.declared.exports.Move.{Move}
-use Rattle.mespindro.specs.declared.exports.Stop.{Stop}
-use Rattle.mespindro.specs.declared.exports.Stand.{Stand}
-use Rattle.mespindro.specs.Exports.{countValues, moveValues, stopValues, standValues}
+use Rattle.answers.specs.declared.Count.{Count}
+use Rattle.answers.specs.declared.Move.{Move}
+use Rattle.answers.specs.declared.Stop.{Stop}
+use Rattle.answers.specs.declared.Stand.{Stand}
+use Rattle.answers.specs.Structs.{countValues, moveValues, stopValues, standValues}
 use Rattle.promises.proofs.Refused.{span-length}
 
 -- No two structs of the exported functions have the same values: every field is told.

@@ -10,4 +10,6 @@ pub mod Rules
 pub mod AsBase
 pub mod Excluded
 pub mod Starred
+pub mod Given
+pub mod Samples
 pub mod Boundaries

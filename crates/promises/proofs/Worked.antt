@@ -66,7 +66,7 @@ pub front-table : {n : ℕ} {p : Tree program} (rest others : List ℕ) → Good
 front-table rest others g = front-held rest others (g .small) (g .ranges)
 
 -- what is put at a front is so held
-put-held : {n : ℕ} {p : Tree program} (old : Sheet) → Good n p → Held n (put-front p old) (nodes p) p
+pub put-held : {n : ℕ} {p : Tree program} (old : Sheet) → Good n p → Held n (put-front p old) (nodes p) p
 put-held {p = p} old g = front-table (drop (length (preorder p)) (old .numbers)) (drop (length (column p)) (old .sizes)) g
 
 -- and what an end leaves

@@ -4,7 +4,7 @@ use Prim.Native.Nat.{_+_, _*_, _≤_, _<_}
 use native.Mathlib.Omega.{arith}
 use borrow.Author.Needs.{needs}
 use Rattle.calculus.specs.Answers.{Values, countedValues}
-use Rattle.mespindro.specs.Limit.{limit}
+use Rattle.small.specs.Limit.{small-limit}
 use Rattle.leaf.proofs.Reporting.{start-fits, end-not-refused, end-small, end-closing, end-written}
 use Rattle.leaf.proofs.report.put_end.Statement.{statement}
 use Rattle.leaf.proofs.report.put_end.Tie as tie
@@ -24,7 +24,7 @@ few c = omega (arith, entry c .fits .steps)
 fits : (c : tie.After-put-start) → c .put-start .result ≤ 15
 fits c = let s = entry c in start-fits (s .args .reason) (s .args .steps) (s .pre .0) (s .pre .1) (few c) (c .put-start .ensures)
 
-short : (c : tie.After-n) → started (written c) .put-start .result + c .n .given .0 .0 ≤ 12 * limit + 15
+short : (c : tie.After-n) → started (written c) .put-start .result + c .n .given .0 .0 ≤ 12 * small-limit + 15
 short c =
     let d = started (written c) in
     let s = entry d in

@@ -3,7 +3,7 @@ use mathlib.Core.Path.{ap}
 use native.Mathlib.Omega.{arith}
 use borrow.Author.Needs.{needs}
 use Rattle.calculus.specs.Answers.{Values, ranValues}
-use Rattle.mespindro.specs.Limit.{limit}
+use Rattle.small.specs.Limit.{small-limit}
 use Rattle.leaf.proofs.Calling.{zeros-hold, run-not-refused, run-few, run-holds, run-written}
 use Rattle.leaf.proofs.report.put_run.Statement.{statement}
 use Rattle.leaf.proofs.report.put_run.Tie as tie
@@ -30,14 +30,14 @@ cast-put-end : tie.Need-cast-put-end
 cast-put-end c =
     let n = c .before in
     let d = after-run n in
-    omega (arith, run-few (entry d .pre .0) (zeros-hold limit) (d .run .ensures) (n .reason .given .0 .0) (ap ranValues (n .reason .given .1)))
+    omega (arith, run-few (entry d .pre .0) (zeros-hold small-limit) (d .run .ensures) (n .reason .given .0 .0) (ap ranValues (n .reason .given .1)))
 
 put-end-requires : tie.Need-put-end-requires
 put-end-requires c κs =
     let n = c .before .before .before .before in
     let d = after-run n in
     let s = entry d in
-    (run-holds (s .pre .0) (zeros-hold limit) (d .run .ensures) (n .reason .given .0 .0) (ap ranValues (n .reason .given .1)), s .pre .1)
+    (run-holds (s .pre .0) (zeros-hold small-limit) (d .run .ensures) (n .reason .given .0 .0) (ap ranValues (n .reason .given .1)), s .pre .1)
 
 enum-known-r : tie.Need-enum-known-r
 enum-known-r c = search needs
@@ -59,7 +59,7 @@ returns c =
     let e = c .before .before in
     let n = e .before .before .before .before .before in
     let d = after-run n in
-    run-written (entry d .pre .0) (zeros-hold limit) (d .run .ensures) (n .reason .given .0 .0) (ap ranValues (n .reason .given .1)) (e .put-end .ensures)
+    run-written (entry d .pre .0) (zeros-hold small-limit) (d .run .ensures) (n .reason .given .0 .0) (ap ranValues (n .reason .given .1)) (e .put-end .ensures)
 
 same-length-4 : tie.Need-same-length-4
 same-length-4 c = search needs
@@ -74,7 +74,7 @@ returns-2 : tie.Need-returns-2
 returns-2 c =
     let n = c .before .before .before .before .before in
     let d = n .before .before .before .before .before .before .before .before in
-    absurd (run-not-refused (entry d .pre .0) (zeros-hold limit) (d .run .ensures) (n .r .given .0 .0) (ap (λ (v : Values). v .refusal) (ap ranValues (n .r .given .1))))
+    absurd (run-not-refused (entry d .pre .0) (zeros-hold small-limit) (d .run .ensures) (n .r .given .0 .0) (ap (λ (v : Values). v .refusal) (ap ranValues (n .r .given .1))))
 
 pub put-run-spec : {M : Type 1} → statement M
 put-run-spec =

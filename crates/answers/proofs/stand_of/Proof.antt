@@ -1,0 +1,37 @@
+-- `answers::stand_of` meets its contract: what the standing call answers, as a struct of numbers.
+use mathlib.Core.Path.{sym, ap, _∙_}
+use mathlib.Core.List.{[], _∷_}
+use Prim.Native.Nat.{ℕ}
+use borrow.Author.Needs.{needs}
+use Rattle.calculus.specs.Answers.{stoodValues}
+use Rattle.answers.proofs.stand_of.Statement.{statement}
+use Rattle.answers.proofs.stand_of.Tie as tie
+
+enum-known-x : tie.Need-enum-known-x
+enum-known-x c = search needs
+
+standing-code-requires : tie.Need-standing-code-requires
+standing-code-requires c κs = search needs
+
+enum-known-x-2 : tie.Need-enum-known-x-2
+enum-known-x-2 c = search needs
+
+refusal-number-requires : tie.Need-refusal-number-requires
+refusal-number-requires c κs = search needs
+
+returns : tie.Need-returns
+returns c = ap (λ (m : ℕ). record { refusal = 0; values = m ∷ [] }) (c .standing-code .ensures) ∙ sym (ap stoodValues (c .before .before .x .given .1))
+
+returns-2 : tie.Need-returns-2
+returns-2 c = ap (λ (m : ℕ). record { refusal = m; values = 0 ∷ [] }) (c .refusal-number .ensures) ∙ sym (ap stoodValues (c .before .before .x2 .given .1))
+
+pub stand-of-spec : {M : Type 1} → statement M
+stand-of-spec =
+    tie.close
+    (tie.spec
+    enum-known-x
+    standing-code-requires
+    enum-known-x-2
+    refusal-number-requires
+    returns
+    returns-2)

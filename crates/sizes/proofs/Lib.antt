@@ -1,0 +1,4 @@
+pub mod Wider
+pub mod Texts
+pub mod Tables
+pub mod Both
