@@ -21,10 +21,10 @@ enum { PLACEMENT_NODES = 7 };
 enum { STEP_LIMIT = 10000 };
 
 /* One byte more than a text may have, so that a file that is too long is seen by the library and not cut. */
-static uint8_t text[MESPINDRO_TEXT + 1];
-/* Beside each table its column, which the calls keep. */
-static uint16_t table[MESPINDRO_TABLE], column[MESPINDRO_COLUMN];
-static uint16_t work[MESPINDRO_TABLE], work_column[MESPINDRO_COLUMN];
+static uint8_t text[MESPINDRO_SMALL_TEXT + 1];
+/* Beside each table its column, which the calls keep. A leaf's rule set fits the small size; for a larger one take the names without `small`. */
+static uint16_t table[MESPINDRO_SMALL_TABLE], column[MESPINDRO_SMALL_COLUMN];
+static uint16_t work[MESPINDRO_SMALL_TABLE], work_column[MESPINDRO_SMALL_COLUMN];
 
 /* The names of docs/USING.md, which tells what an operator is to look at. */
 static const char *refusal_name(uint16_t refusal) {
@@ -87,13 +87,13 @@ static int print_thread(size_t k, uint16_t standing, struct mespindro_part part)
 static int print_threads(size_t nodes) {
     int all = 1;
     for (size_t k = 0;; k++) {
-        struct mespindro_stand stand = mespindro_standing(table, MESPINDRO_TABLE, column, MESPINDRO_COLUMN, nodes, k);
+        struct mespindro_stand stand = mespindro_small_standing(table, MESPINDRO_SMALL_TABLE, column, MESPINDRO_SMALL_COLUMN, nodes, k);
         if (stand.refusal == MESPINDRO_NO_THREAD) {
             if (k == 0) printf("no alternative is left: the request cannot be met\n");
             return all && k > 0;
         }
         if (stand.refusal != MESPINDRO_ACCEPTED) return refused("standing", stand.refusal);
-        struct mespindro_part part = mespindro_thread(table, MESPINDRO_TABLE, column, MESPINDRO_COLUMN, nodes, k);
+        struct mespindro_part part = mespindro_small_thread(table, MESPINDRO_SMALL_TABLE, column, MESPINDRO_SMALL_COLUMN, nodes, k);
         if (!print_thread(k, stand.standing, part)) all = 0;
     }
 }
@@ -105,10 +105,10 @@ static void print_counts(struct mespindro_counts counts) {
 }
 
 static int place(size_t length) {
-    struct mespindro_count read = mespindro_read(text, length, table, MESPINDRO_TABLE, column, MESPINDRO_COLUMN);
+    struct mespindro_count read = mespindro_small_read(text, length, table, MESPINDRO_SMALL_TABLE, column, MESPINDRO_SMALL_COLUMN);
     if (read.refusal != MESPINDRO_ACCEPTED) return refused("read", read.refusal);
-    struct mespindro_stop stop = mespindro_run(table, MESPINDRO_TABLE, column, MESPINDRO_COLUMN, read.count, work, MESPINDRO_TABLE, work_column,
-                                               MESPINDRO_COLUMN, STEP_LIMIT);
+    struct mespindro_stop stop = mespindro_small_run(table, MESPINDRO_SMALL_TABLE, column, MESPINDRO_SMALL_COLUMN, read.count,
+                                                     work, MESPINDRO_SMALL_TABLE, work_column, MESPINDRO_SMALL_COLUMN, STEP_LIMIT);
     if (stop.refusal != MESPINDRO_ACCEPTED) return refused("run", stop.refusal);
     if (stop.reason == MESPINDRO_STEPS) printf("stopped after %lu steps: not ended\n", (unsigned long)stop.steps);
     if (stop.reason == MESPINDRO_ROOM) printf("stopped after %lu steps for want of room: not ended\n", (unsigned long)stop.steps);

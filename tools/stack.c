@@ -1,8 +1,10 @@
 /* How much stack each call takes: the stack below a call is painted, and what the call has touched is looked for. With files of rule sets on
- * those; without any on the deepest inputs, and then how deep an input may be for a task with a small stack. tools/stack builds and runs it. */
-#include "../include/mespindro.h"
+ * those; without any on the deepest inputs, and then, for the small calls, how deep an input may be for a task with a small stack. tools/stack
+ * builds it at both sizes and runs it. */
+#include "../rust/tests/c/size.h"
 
 int printf(const char *, ...);
+int snprintf(char *, size_t, const char *, ...);
 int open(const char *, int, ...);
 int close(int);
 long read(int, void *, size_t);
@@ -12,9 +14,9 @@ long read(int, void *, size_t);
 /* the stack of the older leaf's management task */
 #define TASK 16384
 
-static uint8_t text[MESPINDRO_TEXT];
-static uint16_t table[MESPINDRO_TABLE], column[MESPINDRO_COLUMN];
-static uint16_t work[MESPINDRO_TABLE], work_column[MESPINDRO_COLUMN];
+static uint8_t text[TEXT];
+static uint16_t table[TABLE], column[COLUMN];
+static uint16_t work[TABLE], work_column[COLUMN];
 static size_t length, nodes;
 
 /* The same frame below each time: `paint` fills it, `touched` looks how far from its far end it is unchanged. */
@@ -39,9 +41,9 @@ static void node(uint16_t kind, uint16_t number) {
 }
 
 static void begin(void) {
-    for (size_t i = 0; i < MESPINDRO_TABLE; i++)
+    for (size_t i = 0; i < TABLE; i++)
         table[i] = work[i] = 0;
-    for (size_t i = 0; i < MESPINDRO_COLUMN; i++)
+    for (size_t i = 0; i < COLUMN; i++)
         column[i] = work_column[i] = 0;
     nodes = 0;
     node(1, 0);
@@ -85,59 +87,60 @@ static void nested_text(size_t levels, const char *head, const char *middle, con
     chars(")");
 }
 
-static void told(const char *call, const char *input, unsigned refusal, size_t levels, const char *how) {
-    size_t bytes = touched();
-    printf("%-9s %-60s refusal %2u %8lu bytes", call, input, refusal, (unsigned long)bytes);
-    if (levels)
-        printf(", %lu levels, %.1f a level", (unsigned long)levels, (double)bytes / (double)levels);
-    printf("%s\n", how);
+/* the input's name, in which the count stands */
+static char input[80];
+
+static void named(const char *format, size_t count) { (void)snprintf(input, sizeof input, format, (unsigned long)count); }
+
+static void told(const char *call, unsigned refusal, const char *how) {
+    printf("%-14s %-66s refusal %2u %8lu bytes%s\n", call, input, refusal, (unsigned long)touched(), how);
 }
 
 /* how a run stopped, by its reason's code */
 static const char *const stopped[] = {"", ", ended", ", stopped by steps", ", stopped by room"};
 
-static void reading(const char *input, size_t levels) {
+static void reading(void) {
     paint();
-    unsigned r = mespindro_read(text, length, work, MESPINDRO_TABLE, work_column, MESPINDRO_COLUMN).refusal;
-    told("read", input, r, levels, "");
+    unsigned r = CALL(read)(text, length, work, TABLE, work_column, COLUMN).refusal;
+    told(CALLED("read"), r, "");
 }
 
-static void on_table(const char *input, size_t levels, uint32_t most) {
-    static uint8_t out[MESPINDRO_TEXT];
+static void on_table(uint32_t most) {
+    static uint8_t out[TEXT];
     unsigned r;
     paint();
-    r = mespindro_write(table, MESPINDRO_TABLE, column, MESPINDRO_COLUMN, nodes, out, MESPINDRO_TEXT).refusal;
-    told("write", input, r, levels, "");
+    r = CALL(write)(table, TABLE, column, COLUMN, nodes, out, TEXT).refusal;
+    told(CALLED("write"), r, "");
     paint();
-    r = mespindro_standing(table, MESPINDRO_TABLE, column, MESPINDRO_COLUMN, nodes, 0).refusal;
-    told("standing", input, r, levels, "");
+    r = CALL(standing)(table, TABLE, column, COLUMN, nodes, 0).refusal;
+    told(CALLED("standing"), r, "");
     paint();
     /* the part is empty exactly where the standing call refuses */
-    size_t part = mespindro_thread(table, MESPINDRO_TABLE, column, MESPINDRO_COLUMN, nodes, 0).length;
-    told("thread", input, part ? 0 : r, levels, "");
+    size_t part = CALL(thread)(table, TABLE, column, COLUMN, nodes, 0).length;
+    told(CALLED("thread"), part ? 0 : r, "");
     paint();
-    r = mespindro_step(table, MESPINDRO_TABLE, column, MESPINDRO_COLUMN, nodes, work, MESPINDRO_TABLE, work_column, MESPINDRO_COLUMN).refusal;
-    told("step", input, r, levels, "");
+    r = CALL(step)(table, TABLE, column, COLUMN, nodes, work, TABLE, work_column, COLUMN).refusal;
+    told(CALLED("step"), r, "");
     paint();
-    struct mespindro_stop stop = mespindro_run(table, MESPINDRO_TABLE, column, MESPINDRO_COLUMN, nodes, work, MESPINDRO_TABLE, work_column,
-                                               MESPINDRO_COLUMN, most);
-    told("run", input, stop.refusal, levels, stopped[stop.reason]);
+    struct mespindro_stop stop = CALL(run)(table, TABLE, column, COLUMN, nodes, work, TABLE, work_column, COLUMN, most);
+    told(CALLED("run"), stop.refusal, stopped[stop.reason]);
 }
 
 /* a rule set, whose file is read in one piece */
 static void rule_set(const char *file) {
     int from = open(file, 0);
-    long got = from < 0 ? -1 : read(from, text, MESPINDRO_TEXT);
+    long got = from < 0 ? -1 : read(from, text, TEXT);
     if (got < 0) {
         printf("%s: not read\n", file);
         return;
     }
     (void)close(from);
     length = (size_t)got;
-    reading(file, 0);
+    (void)snprintf(input, sizeof input, "%s", file);
+    reading();
     begin();
-    nodes = mespindro_read(text, length, table, MESPINDRO_TABLE, column, MESPINDRO_COLUMN).count;
-    on_table(file, 0, 10000);
+    nodes = CALL(read)(text, length, table, TABLE, column, COLUMN).count;
+    on_table(10000);
 }
 
 /* a left spine: the head applied to so many constructors */
@@ -242,6 +245,9 @@ static void bound_chain(int levels) {
     end();
 }
 
+/* y0 is the variable of this number: no x has it */
+#define Y (NODES / 8)
+
 /* x1 = c8 x0, x2 = c8 x1, .., the same for y, and at last x = y: each pair is met through the one before */
 static void meeting_chains(int levels) {
     begin();
@@ -251,7 +257,7 @@ static void meeting_chains(int levels) {
     node(4, 9);
     for (int i = 1; i <= levels; i++) {
         node(3, (uint16_t)i);
-        node(3, (uint16_t)(200 + i));
+        node(3, (uint16_t)(Y + i));
     }
     node(3, (uint16_t)levels);
     for (int i = 0; i < 2 * levels + 1; i++)
@@ -263,9 +269,9 @@ static void meeting_chains(int levels) {
         node(3, (uint16_t)(i - 1));
         node(7, 0);
         node(4, 8);
-        node(3, (uint16_t)(200 + i - 1));
+        node(3, (uint16_t)(Y + i - 1));
     }
-    node(3, (uint16_t)(200 + levels));
+    node(3, (uint16_t)(Y + levels));
     end();
 }
 
@@ -277,51 +283,68 @@ struct family {
 };
 
 static const struct family families[] = {
-    {"a left spine beside a goal, applications", spine_beside_goal, 1020},
-    {"a left spine in a closure beside a goal, applications", spine_in_closure, 1017},
-    {"a left spine that a value is put into, applications", spine_in_body, 1020},
-    {"a left spine below a fresh node, applications", spine_below_fresh, 1021},
-    {"nested bodies applied to a constructor", nested_bodies, 680},
-    {"variables of a goal, each bound to a structure with the next", counted_chain, 290},
-    {"the same, with the last one behind the goal", bound_chain, 290},
-    {"two chains of variables that meet at their ends", meeting_chains, 169},
+    {"a left spine of %lu applications beside a goal", spine_beside_goal, NODES / 2 - 4},
+    {"a left spine of %lu applications in a closure beside a goal", spine_in_closure, NODES / 2 - 7},
+    {"a left spine of %lu applications that a value is put into", spine_in_body, NODES / 2 - 4},
+    {"a left spine of %lu applications below a fresh node", spine_below_fresh, NODES / 2 - 3},
+    {"%lu nested bodies applied to a constructor", nested_bodies, (NODES - 6) / 3},
+    {"%lu variables of a goal, each bound to a structure with the next", counted_chain, NODES / 7 - 2},
+    {"the same of %lu, with the last one behind the goal", bound_chain, NODES / 7 - 2},
+    {"two chains of %lu variables that meet at their ends", meeting_chains, (NODES - 10) / 12},
 };
 #define FAMILIES (sizeof families / sizeof families[0])
 
-static size_t of_run(uint32_t most) {
+static size_t of_run(const struct family *family, int levels) {
+    family->build(levels);
     paint();
-    (void)mespindro_run(table, MESPINDRO_TABLE, column, MESPINDRO_COLUMN, nodes, work, MESPINDRO_TABLE, work_column, MESPINDRO_COLUMN, most);
+    (void)CALL(run)(table, TABLE, column, COLUMN, nodes, work, TABLE, work_column, COLUMN, 10);
     return touched();
 }
 
+/* all calls on the deepest one, and what a level costs a run: the difference to half as many */
+static void deepest(const struct family *family) {
+    int half = family->most / 2;
+    named(family->name, (size_t)family->most);
+    family->build(family->most);
+    on_table(10);
+    size_t less = of_run(family, half), bytes = of_run(family, family->most);
+    printf("%-14s %-66s %.1f bytes a level\n", CALLED("run"), input, (double)(bytes - less) / (family->most - half));
+}
+
+#ifdef SMALL
 /* the most levels with which a run stays within the task's stack, and what one more takes */
 static void fitting(const struct family *family) {
     size_t bytes = 0, next = 0, count = 0;
     int levels = 0;
     while (levels < family->most) {
-        family->build(levels + 1);
+        next = of_run(family, levels + 1);
         count = nodes;
-        next = of_run(10);
         if (next >= TASK)
             break;
         bytes = next;
         levels++;
     }
-    printf("run       %-60s %5d levels fit a stack of %d bytes: %lu", family->name, levels, TASK, (unsigned long)bytes);
+    named(family->name, (size_t)levels);
+    printf("%-14s %-66s fits a stack of %d bytes: %lu", CALLED("run"), input, TASK, (unsigned long)bytes);
     if (levels < family->most)
         printf("; one more, %lu nodes: %lu", (unsigned long)count, (unsigned long)next);
     printf("\n");
 }
+#endif
 
 static void texts(void) {
     nested_text(0, "", "", "");
-    reading("()", 0);
-    nested_text(4912, "(1:n", "(1:c1:0)", ")");
-    reading("4,912 nested fresh nodes, the longest text", 4912);
-    nested_text(3508, "(1:l(", "(1:c1:0)", "))");
-    reading("3,508 nested abstractions, the longest text", 3508);
-    nested_text(2045, "(1:n", "(1:c1:0)", ")");
-    reading("2,045 nested fresh nodes", 2045);
+    named("()", 0);
+    reading();
+    nested_text((TEXT - 10) / 5, "(1:n", "(1:c1:0)", ")");
+    named("%lu nested fresh nodes, the longest text", (TEXT - 10) / 5);
+    reading();
+    nested_text((TEXT - 10) / 7, "(1:l(", "(1:c1:0)", "))");
+    named("%lu nested abstractions, the longest text", (TEXT - 10) / 7);
+    reading();
+    nested_text(NODES - 3, "(1:n", "(1:c1:0)", ")");
+    named("%lu nested fresh nodes", NODES - 3);
+    reading();
 }
 
 /* threads without a goal that cost nothing by their depth */
@@ -329,82 +352,82 @@ static void flat_threads(void) {
     begin();
     node(4, 1);
     end();
-    on_table("one constructor", 0, 10);
+    named("one constructor", 0);
+    on_table(10);
 
     begin();
-    for (int i = 0; i < 2045; i++)
+    for (int i = 0; i < NODES - 3; i++)
         node(8, 0);
     node(4, 1);
     end();
-    on_table("2,045 nested fresh nodes", 0, 10);
+    named("%lu nested fresh nodes", NODES - 3);
+    on_table(10);
 
     begin();
-    for (int i = 0; i < 1022; i++)
-        node(7, 0);
-    for (int i = 0; i < 1023; i++)
-        node(4, 1);
+    spine(NODES / 2 - 2, 4, 1);
     end();
-    on_table("a structure of 1,022 applications, nested on the left", 0, 10);
+    named("a structure of %lu applications, nested on the left", NODES / 2 - 2);
+    on_table(10);
 
     begin();
-    for (int i = 0; i < 1022; i++) {
+    for (int i = 0; i < NODES / 2 - 2; i++) {
         node(9, 0);
         node(4, 1);
     }
     node(4, 1);
     end();
-    on_table("1,022 guards, nested on the right", 0, 2000);
+    named("%lu guards, nested on the right", NODES / 2 - 2);
+    on_table(NODES);
 
     begin();
-    node(7, 0);
-    for (uint16_t i = 0; i < 1020; i++)
+    for (int i = 0; i < NODES / 2 - 3; i++)
         node(7, 0);
     node(4, 9);
-    for (uint16_t i = 1020; i > 0; i--)
-        node(3, i - 1);
+    for (int i = NODES / 2 - 4; i > 0; i--)
+        node(3, (uint16_t)(i - 1));
     node(8, 0);
     node(2, 0);
     end();
-    on_table("1,020 variables beside a fresh node", 0, 10);
+    named("%lu variables beside a fresh node", NODES / 2 - 4);
+    on_table(10);
 }
 
 /* goals that cost nothing by their depth */
 static void flat_goals(void) {
     begin();
     node(10, 0);
-    for (int v = 0; v < 2; v++) {
-        for (int i = 0; i < 510; i++)
-            node(7, 0);
-        for (int i = 0; i < 511; i++)
-            node(4, 1);
-    }
+    for (int v = 0; v < 2; v++)
+        spine(NODES / 4 - 2, 4, 1);
     end();
-    on_table("two structures of 510 applications, nested on the left", 0, 10);
+    named("two structures of %lu applications, nested on the left", NODES / 4 - 2);
+    on_table(10);
 
     begin();
     node(10, 0);
     for (int v = 0; v < 2; v++) {
-        for (int i = 0; i < 510; i++) {
+        for (int i = 0; i < NODES / 4 - 2; i++) {
             node(7, 0);
             node(4, 1);
         }
         node(4, 1);
     }
     end();
-    on_table("two structures of 510 applications, nested on the right", 0, 10);
+    named("two structures of %lu applications, nested on the right", NODES / 4 - 2);
+    on_table(10);
 
     begin();
     node(9, 0);
     node(10, 0);
     node(3, 0);
-    for (int i = 0; i < 1020; i++) {
+    for (int i = 0; i < NODES / 2 - 4; i++) {
         node(7, 0);
         node(4, 1);
     }
     node(4, 1);
     node(3, 0);
     end();
-    on_table("a value of 1,020 applications, nested on the right, bound", 0, 10);
+    named("a value of %lu applications, nested on the right, bound", NODES / 2 - 4);
+    on_table(10);
 
     begin();
     node(9, 0);
@@ -412,19 +435,20 @@ static void flat_goals(void) {
     node(3, 0);
     node(6, 0);
     node(1, 0);
-    for (int i = 0; i < 2038; i++)
+    for (int i = 0; i < NODES - 10; i++)
         node(8, 0);
     node(4, 1);
     node(0, 0);
     node(3, 0);
     end();
-    on_table("a closure of 2,038 nested fresh nodes, bound", 0, 10);
+    named("a closure of %lu nested fresh nodes, bound", NODES - 10);
+    on_table(10);
 }
 
 int main(int files, char **file) {
     nested_text(0, "", "", "");
     /* once before, so that what a first call loads does not count */
-    (void)mespindro_read(text, length, work, MESPINDRO_TABLE, work_column, MESPINDRO_COLUMN);
+    (void)CALL(read)(text, length, work, TABLE, work_column, COLUMN);
     for (int i = 1; i < files; i++)
         rule_set(file[i]);
     if (files > 1)
@@ -432,11 +456,11 @@ int main(int files, char **file) {
     texts();
     flat_threads();
     flat_goals();
-    for (size_t i = 0; i < FAMILIES; i++) {
-        families[i].build(families[i].most);
-        on_table(families[i].name, (size_t)families[i].most, 10);
-    }
+    for (size_t i = 0; i < FAMILIES; i++)
+        deepest(&families[i]);
+#ifdef SMALL
     for (size_t i = 0; i < FAMILIES; i++)
         fitting(&families[i]);
+#endif
     return 0;
 }

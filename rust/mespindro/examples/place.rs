@@ -6,7 +6,9 @@
 use std::process::ExitCode;
 
 use mespindro::kind::{APPLICATION, CONSTRUCTOR};
-use mespindro::{Reason, Refusal, Standing, Table, TableMut, COLUMN, TABLE};
+// a leaf's rule set fits the small size; for a larger one take these from the crate itself
+use mespindro::small::{read, run, standing, thread, COLUMN, TABLE};
+use mespindro::{Reason, Refusal, Standing, Table, TableMut};
 
 /// The numbers of the rule sets in rules/.
 const PLACEMENT: u16 = 3;
@@ -66,8 +68,8 @@ fn print_threads(table: Table<'_>, count: usize) -> bool {
     let mut all = true;
     let mut k = 0;
     loop {
-        match mespindro::standing(table, count, k) {
-            Ok(standing) => all &= print_thread(k, standing, mespindro::thread(table, count, k)),
+        match standing(table, count, k) {
+            Ok(standing) => all &= print_thread(k, standing, thread(table, count, k)),
             Err(Refusal::NoThread) => break,
             Err(refusal) => return refused("standing", refusal),
         }
@@ -84,11 +86,11 @@ fn place(text: &[u8]) -> bool {
     let (mut work, mut work_column) = ([0; TABLE], [0; COLUMN]);
     let mut table = TableMut::new(&mut numbers, &mut column);
     let work = TableMut::new(&mut work, &mut work_column);
-    let count = match mespindro::read(text, table.reborrow()) {
+    let count = match read(text, table.reborrow()) {
         Ok(count) => count,
         Err(refusal) => return refused("read", refusal),
     };
-    let stop = match mespindro::run(table.reborrow(), count, work, STEP_LIMIT) {
+    let stop = match run(table.reborrow(), count, work, STEP_LIMIT) {
         Ok(stop) => stop,
         Err(refusal) => return refused("run", refusal),
     };

@@ -6,13 +6,13 @@ pub const EMPTY: u16 = 0;
 pub const ALTERNATIVE: u16 = 1;
 /// A bound variable. Number: the binders (kinds 5, 6, 8) between it and its own.
 pub const BOUND: u16 = 2;
-/// A free variable. Number: the variable, 0 to 2,047.
+/// A free variable. Number: the variable, 0 to 16,383; to 2,047 for the calls of [`small`](crate::small).
 pub const FREE: u16 = 3;
 /// A constructor. Number: the constructor, 0 to 65,535; 0 is `ok`.
 pub const CONSTRUCTOR: u16 = 4;
 /// An abstraction. Part: a list of alternatives.
 pub const ABSTRACTION: u16 = 5;
-/// An allocated abstraction. Number: the location, 0 to 2,047; part: a list of alternatives.
+/// An allocated abstraction. Number: the location, in the range of a free variable; part: a list of alternatives.
 pub const ALLOCATED: u16 = 6;
 /// An application. Parts: two terms.
 pub const APPLICATION: u16 = 7;

@@ -34,7 +34,10 @@
 //! **No call has a condition on what the buffers hold**: any bytes, any numbers, any columns, any lengths, any counts. Each ends with its result
 //! or with a [`Refusal`], the first that applies in the order that is said for the call, and a refused call has changed nothing. This is proved
 //! of the code in the archive. Not proved are the compiler's back end, this binding, and that there is enough stack: docs/LIMITS.md has what each
-//! call takes, some 37 kilobytes for a read and up to some 190 for a step or a run of the deepest programs.
+//! call takes at each size.
+//!
+//! **Two sizes**: the calls here take programs of up to [`NODES`] nodes, those of [`small`] up to 2,048, with less stack and in less memory. A
+//! text or a table that the small ones take means the same to both.
 //!
 //! **Panics**: none with the archive of this version. An answer that no call of it gives, as from an archive of another version that was put
 //! in its place, is not handed on.
@@ -46,6 +49,7 @@ mod answer;
 mod c;
 pub mod kind;
 mod refusal;
+pub mod small;
 mod table;
 
 pub use answer::{Counts, Move, Reason, Rule, Standing, Stop};
@@ -58,10 +62,10 @@ pub use table::{Table, TableMut};
 struct Readme;
 
 /// The most nodes of a program.
-pub const NODES: usize = 2048;
+pub const NODES: usize = 16_384;
 
 /// The most bytes of a program's text.
-pub const TEXT: usize = 24_576;
+pub const TEXT: usize = 196_608;
 
 /// The numbers of a table that holds every program.
 pub const TABLE: usize = 2 * NODES;
@@ -85,18 +89,7 @@ pub const COLUMN: usize = NODES;
 /// assert_eq!(column, [3, 1, 1, 7]);
 /// ```
 pub fn read(text: &[u8], out: TableMut<'_>) -> Result<usize, Refusal> {
-    let TableMut { numbers, column } = out;
-    // SAFETY: all slices are valid for their lengths, and what is lent to be written is in no other use
-    counted(unsafe {
-        c::mespindro_read(
-            text.as_ptr(),
-            text.len(),
-            numbers.as_mut_ptr(),
-            numbers.len(),
-            column.as_mut_ptr(),
-            column.len(),
-        )
-    })
+    c::large::read(text, out).result()
 }
 
 /// Writes the text of the first `count` nodes and answers its length.
@@ -112,19 +105,7 @@ pub fn read(text: &[u8], out: TableMut<'_>) -> Result<usize, Refusal> {
 /// assert_eq!(&text, b"((1:c1:1))");
 /// ```
 pub fn write(table: Table<'_>, count: usize, out: &mut [u8]) -> Result<usize, Refusal> {
-    let Table { numbers, column } = table;
-    // SAFETY: as for `read`
-    counted(unsafe {
-        c::mespindro_write(
-            numbers.as_ptr(),
-            numbers.len(),
-            column.as_ptr(),
-            column.len(),
-            count,
-            out.as_mut_ptr(),
-            out.len(),
-        )
-    })
+    c::large::write(table, count, out).result()
 }
 
 /// Makes one step, into `out`, and answers the node count of its result, its rule and its thread.
@@ -151,26 +132,7 @@ pub fn write(table: Table<'_>, count: usize, out: &mut [u8]) -> Result<usize, Re
 /// # Ok::<(), Refusal>(())
 /// ```
 pub fn step(table: Table<'_>, count: usize, out: TableMut<'_>) -> Result<Move, Refusal> {
-    // SAFETY: as for `read`
-    let got = unsafe {
-        c::mespindro_step(
-            table.numbers.as_ptr(),
-            table.numbers.len(),
-            table.column.as_ptr(),
-            table.column.len(),
-            count,
-            out.numbers.as_mut_ptr(),
-            out.numbers.len(),
-            out.column.as_mut_ptr(),
-            out.column.len(),
-        )
-    };
-    refused(got.refusal, (got.nodes, got.rule, got.thread) == (0, 0, 0))?;
-    Ok(Move {
-        nodes: got.nodes,
-        rule: known(Rule::of_code(got.rule)),
-        thread: got.thread as usize,
-    })
+    c::large::step(table, count, out).result()
 }
 
 /// Runs the program in the table for at most `most` steps.
@@ -203,29 +165,7 @@ pub fn run(
     work: TableMut<'_>,
     most: u32,
 ) -> Result<Stop, Refusal> {
-    // SAFETY: as for `read`
-    let got = unsafe {
-        c::mespindro_run(
-            table.numbers.as_mut_ptr(),
-            table.numbers.len(),
-            table.column.as_mut_ptr(),
-            table.column.len(),
-            count,
-            work.numbers.as_mut_ptr(),
-            work.numbers.len(),
-            work.column.as_mut_ptr(),
-            work.column.len(),
-            most,
-        )
-    };
-    let zeros = (got.nodes, got.steps, got.reason) == (0, 0, 0);
-    refused(got.refusal, zeros && got.counts == Counts::default())?;
-    Ok(Stop {
-        reason: known(Reason::of_code(got.reason)),
-        nodes: got.nodes,
-        steps: got.steps,
-        counts: got.counts,
-    })
+    c::large::run(table, count, work, most).result()
 }
 
 /// How thread `k` stands, counted from 0. Refuses 1, 14, 6, 8, 10, in this order.
@@ -240,20 +180,7 @@ pub fn run(
 /// assert_eq!(standing(table, 3, 1), Err(Refusal::NoThread));
 /// ```
 pub fn standing(table: Table<'_>, count: usize, k: usize) -> Result<Standing, Refusal> {
-    let Table { numbers, column } = table;
-    // SAFETY: as for `read`
-    let got = unsafe {
-        c::mespindro_standing(
-            numbers.as_ptr(),
-            numbers.len(),
-            column.as_ptr(),
-            column.len(),
-            count,
-            k,
-        )
-    };
-    refused(got.refusal, got.standing == 0)?;
-    Ok(known(Standing::of_code(got.standing)))
+    c::large::standing(table, count, k).result()
 }
 
 /// The nodes of thread `k` in the caller's own table; empty exactly where [`standing`] refuses.
@@ -267,37 +194,5 @@ pub fn standing(table: Table<'_>, count: usize, k: usize) -> Result<Standing, Re
 /// assert!(thread(table, 3, 1).is_empty());
 /// ```
 pub fn thread<'a>(table: Table<'a>, count: usize, k: usize) -> &'a [u16] {
-    let Table { numbers, column } = table;
-    // SAFETY: as for `read`
-    let part = unsafe {
-        c::mespindro_thread(
-            numbers.as_ptr(),
-            numbers.len(),
-            column.as_ptr(),
-            column.len(),
-            count,
-            k,
-        )
-    };
-    &numbers[part.start..part.start + part.length]
-}
-
-fn counted(got: c::Count) -> Result<usize, Refusal> {
-    refused(got.refusal, got.count == 0)?;
-    Ok(got.count)
-}
-
-/// A refusal's number as an error; every other field is 0 then.
-fn refused(number: u16, others_are_zero: bool) -> Result<(), Refusal> {
-    if number == 0 {
-        return Ok(());
-    }
-    Err(known(
-        Refusal::of_number(number).filter(|_| others_are_zero),
-    ))
-}
-
-/// What an answer's number stands for. The archive that this crate was made for gives no other.
-fn known<T>(found: Option<T>) -> T {
-    found.expect("the archive gives an answer that this version does not know")
+    c::large::thread(table, count, k).of(table.numbers)
 }

@@ -15,7 +15,7 @@ use core::fmt;
 pub enum Refusal {
     /// The table does not hold one program of `count` nodes.
     NoProgram = 1,
-    /// The text is longer than [`TEXT`](crate::TEXT) bytes.
+    /// The text is longer than the [`TEXT`](crate::TEXT) bytes of the call's size.
     TooLong = 2,
     /// The text is not exactly one canonical S-expression: a trailing newline is enough.
     NotCanonical = 3,
@@ -25,7 +25,7 @@ pub enum Refusal {
     BadNumber = 5,
     /// A bound variable has no binder.
     NoBinder = 6,
-    /// The program read, or a single step's result, has over [`NODES`](crate::NODES) nodes.
+    /// The program read, or a single step's result, has over the [`NODES`](crate::NODES) nodes of the call's size.
     TooManyNodes = 7,
     /// One location with two bodies in a thread, or a body that reaches a binder around it.
     Incoherent = 8,
@@ -88,12 +88,12 @@ impl Refusal {
     pub fn advice(self) -> &'static str {
         match self {
             Refusal::NoProgram => "the table was not filled by read, step or run, or the count is not the one they returned",
-            Refusal::TooLong => "over 24,576 bytes: no rule set of 2,048 nodes is that long; a wrong file, or two files joined",
+            Refusal::TooLong => "over 196,608 bytes: no rule set of 16,384 nodes is that long; a wrong file, or two files joined. On a small leaf over 24,576: perhaps a rule set for a spine",
             Refusal::NotCanonical => "torn or edited by hand: a wrong length before a colon, a bracket missing, a newline at the end",
             Refusal::OutOfPlace => "canonical, but no rule set: an unknown tag, a term with too few or too many parts",
-            Refusal::BadNumber => "a number that is no plain decimal (01), or too large: constructors to 65,535, all others to 2,047",
+            Refusal::BadNumber => "a number that is no plain decimal (01), or too large: constructors to 65,535, all others to 16,383; on a small leaf to 2,047",
             Refusal::NoBinder => "a bound variable that counts past its outermost binder",
-            Refusal::TooManyNodes => "the rule set, or what one step makes of it, has over 2,048 nodes",
+            Refusal::TooManyNodes => "the rule set, or what one step makes of it, has over 16,384 nodes; on a small leaf over 2,048",
             Refusal::Incoherent => "one location with two different bodies in a thread, or a closure that reaches outside; hand-written L nodes: leave them to the evaluator",
             Refusal::NoRoom => "the buffer that was lent is too small: the output or its column; for a run, the work table or its column",
             Refusal::NoThread => "the thread number is past the last thread",

@@ -4,7 +4,8 @@ use std::collections::BTreeMap;
 use std::error::Error;
 use std::path::Path;
 
-use mespindro::{kind, Reason, Refusal, Rule, Standing, TableMut, COLUMN, NODES, TABLE, TEXT};
+use mespindro::{kind, small, Reason, Refusal, Rule, Standing, TableMut};
+use mespindro::{COLUMN, NODES, TABLE, TEXT};
 
 fn file(name: &str) -> String {
     let path = Path::new(env!("CARGO_MANIFEST_DIR"))
@@ -115,6 +116,10 @@ fn the_header() {
         ("TEXT".to_string(), TEXT),
         ("TABLE".to_string(), TABLE),
         ("COLUMN".to_string(), COLUMN),
+        ("SMALL_NODES".to_string(), small::NODES),
+        ("SMALL_TEXT".to_string(), small::TEXT),
+        ("SMALL_TABLE".to_string(), small::TABLE),
+        ("SMALL_COLUMN".to_string(), small::COLUMN),
         ("ACCEPTED".to_string(), 0),
     ]);
     let kinds = [

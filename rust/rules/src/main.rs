@@ -9,6 +9,7 @@ use std::io::{self, ErrorKind, Write};
 use std::path::{Path, PathBuf};
 use std::process::ExitCode;
 
+use mespindro::NODES;
 use page_file::PageFile;
 use rules::memory::Memory;
 use rules::notation::{self, Error, Names};
@@ -22,6 +23,7 @@ rules show FILE [NAMES]                  the canonical text in FILE as readable 
 rules run [--trace] [--html PAGE] FILE   runs either form for at most 10,000 steps and tells how it ends
     --trace        tells each step, on lines of at most COLUMNS characters (80 if that is not set, and never less than 40)
     --html PAGE    writes the run as a picture: one page that needs nothing else
+    a rule set that a small leaf takes is run in 2,048 nodes, as there, and any other in 16,384
 ";
 
 /// Nested programs are worked by functions that call themselves.
@@ -155,7 +157,7 @@ fn no_text(file: &Path, content: &[u8], error: &Error) -> Failure {
         return wrong(file, "this is a readable form, not a canonical text");
     }
     let mut failure = at(file, error);
-    if let Err(refusal) = mespindro::read(content, Memory::zeros().table_mut()) {
+    if let Err(refusal) = mespindro::read(content, Memory::zeros(NODES).table_mut()) {
         failure.message += &format!("  a switch refuses it: {refusal}\n");
     }
     failure

@@ -1,8 +1,8 @@
 //! Memory that is lent to the library.
 
-use mespindro::{Table, TableMut, COLUMN, TABLE};
+use mespindro::{Table, TableMut};
 
-/// A table with its column: both hold every program.
+/// A table with its column.
 pub struct Memory {
     /// Two a node.
     pub numbers: Vec<u16>,
@@ -11,11 +11,11 @@ pub struct Memory {
 }
 
 impl Memory {
-    /// A new one, of zeros only.
-    pub fn zeros() -> Memory {
+    /// A new one for so many nodes, of zeros only.
+    pub fn zeros(nodes: usize) -> Memory {
         Memory {
-            numbers: vec![0; TABLE],
-            column: vec![0; COLUMN],
+            numbers: vec![0; 2 * nodes],
+            column: vec![0; nodes],
         }
     }
 

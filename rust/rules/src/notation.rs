@@ -21,7 +21,7 @@
 //! not given again, and a constructor has one name.
 //!
 //! What is read here, in both directions, is what the library reads: numbers are in their ranges, every bound variable has its binder, the
-//! program has at most 2,048 nodes, and every thread is coherent.
+//! program has at most 16,384 nodes, and every thread is coherent.
 
 use std::collections::BTreeMap;
 use std::fmt;
@@ -186,7 +186,7 @@ fn plain_decimal(digits: &[u8], most: u16) -> Option<u16> {
 
 /// The greatest constructor, and the greatest free variable, location and bound index.
 const MOST_CONSTRUCTOR: u16 = 65_535;
-const MOST_OTHER: u16 = 2_047;
+const MOST_OTHER: u16 = (mespindro::NODES - 1) as u16;
 
 /// Counts the nodes of a program while it is read.
 #[derive(Default)]

@@ -5,7 +5,7 @@ mod picture;
 
 use std::fmt::Write;
 
-use mespindro::{Reason, Rule, Standing, NODES};
+use mespindro::{Reason, Rule, Standing};
 
 use crate::notation::{line, show, Names};
 use crate::run::{missing, nothing_left, End};
@@ -83,7 +83,7 @@ fn verdict(story: &Story, end: &End) -> String {
     let reason = match end.stop.reason {
         Reason::Ended => format!("The run ended after {steps}: every alternative is finished."),
         Reason::Steps => format!("The run was stopped after {steps}: there is more to do, and nothing may be placed."),
-        Reason::Room => format!("The run stopped after {steps} for want of room: its next step needs more than {NODES} nodes. There is more to do, and nothing may be placed."),
+        Reason::Room => format!("The run stopped after {steps} for want of room: its next step needs more than {} nodes. There is more to do, and nothing may be placed.", end.room),
     };
     let died = |branch: &&Branch| matches!(branch.fate, Fate::Died(..));
     let died = story.branches.iter().filter(died).count();

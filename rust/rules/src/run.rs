@@ -1,6 +1,6 @@
 //! Running a rule set by the library, and telling its end.
 
-use mespindro::{Reason, Refusal, Standing, Stop, NODES};
+use mespindro::{small, Reason, Refusal, Standing, Stop, NODES};
 
 use crate::follow::{Follow, Step};
 use crate::memory::Memory;
@@ -36,6 +36,15 @@ impl RuleSet {
         Ok(RuleSet { program, names })
     }
 
+    /// The nodes that it is run in: as many as a small leaf has, or, where that does not take it, as many as the library has.
+    pub fn room(&self) -> usize {
+        let mut leaf = Memory::zeros(small::NODES);
+        match small::read(&self.text(), leaf.table_mut()) {
+            Ok(_) => small::NODES,
+            Err(_) => NODES,
+        }
+    }
+
     /// Its canonical text, which the library reads.
     pub fn text(&self) -> Vec<u8> {
         notation::text(&self.program)
@@ -50,6 +59,8 @@ pub fn is_canonical(content: &[u8]) -> bool {
 
 /// How a run stopped, and each thread of its end with its standing.
 pub struct End {
+    /// The nodes that it was run in.
+    pub room: usize,
     /// What the library answered.
     pub stop: Stop,
     /// In order.
@@ -69,7 +80,8 @@ pub fn run_seen(
     steps: u32,
     see: &mut dyn FnMut(&Step),
 ) -> Result<End, Refusal> {
-    let (mut memory, mut work) = (Memory::zeros(), Memory::zeros());
+    let room = rule_set.room();
+    let (mut memory, mut work) = (Memory::zeros(room), Memory::zeros(room));
     let count = mespindro::read(&rule_set.text(), memory.table_mut())?;
     let stop = mespindro::run(memory.table_mut(), count, work.table_mut(), steps)?;
     let program = of_nodes(&memory.numbers[..2 * stop.nodes]);
@@ -84,6 +96,7 @@ pub fn run_seen(
     }
     let threads = follow.named(program);
     Ok(End {
+        room,
         stop,
         threads: standings.into_iter().zip(threads).collect(),
     })
@@ -181,7 +194,7 @@ fn unfinished(end: &End, k: usize) -> String {
     let first = end.threads.iter().position(open);
     match (first, end.stop.reason) {
         (Some(first), _) if first < k => format!("it waits behind thread {first}"),
-        (_, Reason::Room) => format!("its next step would need more than {NODES} nodes"),
+        (_, Reason::Room) => format!("its next step would need more than {} nodes", end.room),
         (_, _) => format!("the {} steps are used", end.stop.steps),
     }
 }

@@ -86,6 +86,11 @@ impl Term {
     }
 }
 
+/// How many nodes a program has in a table.
+pub fn nodes(program: &[Term]) -> usize {
+    1 + program.iter().map(|term| 1 + term.nodes()).sum::<usize>()
+}
+
 /// Whether two programs are one but for names.
 pub fn same(program: &[Term], other: &[Term]) -> bool {
     let mut pairs = program.iter().zip(other);

@@ -424,3 +424,69 @@ fn bad_words() {
     assert!(said.starts_with("--help:1:1: cannot be read"), "{said}");
     assert!(printed(&["--version"]).starts_with("rules "));
 }
+
+/// A value that doubles at every second step, and so many alternatives behind it.
+fn doubling(alternatives: usize) -> String {
+    let doubled = (0..14).fold("c2".to_string(), |value, _| {
+        format!("(a (l ((a c1 b0 b0))) {value})")
+    });
+    format!("({doubled}{})", " c3".repeat(alternatives))
+}
+
+/// A rule set has the room of a small leaf, or, where that does not take it, for its nodes or for a number, the library's; the end and the page
+/// tell which.
+#[test]
+fn room_by_the_rule_set() {
+    let folder = own("room");
+    let number = doubling(900).replacen("c3", "x2048", 1);
+    for (rule_set, room) in [
+        (doubling(900), 2048),
+        (doubling(1100), 16_384),
+        (number, 16_384),
+    ] {
+        fs::write(folder.join("doubling.rules"), rule_set).unwrap();
+        let output = rules(&folder, &["run", "--html", "page.html", "doubling.rules"]);
+        let told = String::from_utf8(output.stdout).unwrap();
+        let why = format!("thread 0: open, its next step would need more than {room} nodes\n");
+        assert!(told.starts_with("room, ") && told.contains(&why));
+        let page = fs::read_to_string(folder.join("page.html")).unwrap();
+        assert!(page.contains(&format!("its next step needs more than {room} nodes")));
+    }
+}
+
+/// As many levels as there may be, of each kind: the text is read, shown and read again, and run where that takes few steps.
+#[test]
+fn deep_rule_sets() {
+    let folder = own("deep");
+    let closures: String = (0..5460)
+        .map(|location: u16| {
+            let digits = location.to_string();
+            format!("(1:L{}:{digits}(", digits.len())
+        })
+        .collect();
+    let around = |open: &str, close: &str, levels: usize| {
+        format!("({}(1:c1:0){})", open.repeat(levels), close.repeat(levels))
+    };
+    let texts = [
+        (around("(1:a", "(1:c1:2))", 8190), Some("ended, 0 steps")),
+        (around("(1:l(", "))", 5460), Some("ended, 1 steps")),
+        (
+            around(&closures, &"))".repeat(5460), 1),
+            Some("ended, 0 steps"),
+        ),
+        (around("(1:g(1:c1:1)", ")", 8190), None),
+        (around("(1:n", ")", 16_381), None),
+    ];
+    for (text, end) in texts {
+        fs::write(folder.join("deep.csexp"), &text).unwrap();
+        let shown = rules(&folder, &["show", "deep.csexp"]).stdout;
+        fs::write(folder.join("deep.rules"), shown).unwrap();
+        let again = rules(&folder, &["text", "deep.rules"]).stdout;
+        assert!(again == text.as_bytes(), "{}", &text[..40]);
+        if let Some(end) = end {
+            let told = rules(&folder, &["run", "--trace", "deep.csexp"]).stdout;
+            let told = String::from_utf8(told).unwrap();
+            assert!(told.contains(end), "{}", &text[..40]);
+        }
+    }
+}

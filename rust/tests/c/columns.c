@@ -1,15 +1,15 @@
 /* Makes each call with a length of its own for every buffer, in memory with margins, and prints what it answers and what it leaves there:
- * rust/tests/tests/columns.rs knows what it must be. A run has ten arguments and the place of its answer, more than go in registers. Each length
- * decides something, so that two arguments that change places on the way are seen.
+ * rust/tests/tests/columns.rs knows what it must be, the same for both sizes. A run has ten arguments and the place of its answer, more than go
+ * in registers. Each length decides something, so that two arguments that change places on the way are seen.
  */
-#include <mespindro.h>
+#include "size.h"
 #include <stddef.h>
 #include <stdint.h>
 #include <stdio.h>
 
 _Static_assert(MESPINDRO_WRONG_COLUMN == 14, "the refusal");
-_Static_assert(MESPINDRO_COLUMN == MESPINDRO_NODES, "one number a node");
-_Static_assert(MESPINDRO_TABLE == 2 * MESPINDRO_NODES, "two numbers a node");
+_Static_assert(COLUMN == NODES, "one number a node");
+_Static_assert(TABLE == 2 * NODES, "two numbers a node");
 
 enum { MARGIN = 8, MOST = 48, MARK = 43356, BEFORE = 7 };
 
@@ -69,36 +69,35 @@ static const char grown[] = "((1:u(1:a(1:L1:2((1:v1:0)))(1:a(1:L1:0((1:v1:0)(1:c
 static const char guarded[] = "((1:c1:1)(1:g(1:c1:1)(1:c1:2)))";
 
 static size_t read(const char *text, size_t length) {
-    struct mespindro_count read =
-        mespindro_read((const uint8_t *)text, length, part(&table), table.length, part(&column), column.length);
+    struct mespindro_count read = CALL(read)((const uint8_t *)text, length, part(&table), table.length, part(&column), column.length);
     printf("read: count %zu, refusal %u\n", read.count, (unsigned)read.refusal);
     return read.count;
 }
 
 static void write(size_t count, size_t length) {
     static uint8_t text[100];
-    struct mespindro_count wrote = mespindro_write(part(&table), table.length, part(&column), column.length, count, text, length);
+    struct mespindro_count wrote = CALL(write)(part(&table), table.length, part(&column), column.length, count, text, length);
     printf("write: count %zu, refusal %u, %.*s\n", wrote.count, (unsigned)wrote.refusal, (int)wrote.count, (const char *)text);
 }
 
 static void step(size_t count) {
-    struct mespindro_move move = mespindro_step(part(&table), table.length, part(&column), column.length, count, part(&other), other.length,
-                                                part(&other_column), other_column.length);
+    struct mespindro_move move = CALL(step)(part(&table), table.length, part(&column), column.length, count, part(&other), other.length,
+                                            part(&other_column), other_column.length);
     printf("step: nodes %zu, thread %lu, rule %u, refusal %u\n", move.nodes, (unsigned long)move.thread, (unsigned)move.rule,
            (unsigned)move.refusal);
 }
 
 static size_t run(size_t count, uint32_t most) {
-    struct mespindro_stop stop = mespindro_run(part(&table), table.length, part(&column), column.length, count, part(&other), other.length,
-                                               part(&other_column), other_column.length, most);
+    struct mespindro_stop stop = CALL(run)(part(&table), table.length, part(&column), column.length, count, part(&other), other.length,
+                                           part(&other_column), other_column.length, most);
     printf("run: nodes %zu, steps %lu, beta %lu, unif %lu, reason %u, refusal %u\n", stop.nodes, (unsigned long)stop.steps,
            (unsigned long)stop.counts.beta, (unsigned long)stop.counts.unif, (unsigned)stop.reason, (unsigned)stop.refusal);
     return stop.nodes;
 }
 
 static void threads(size_t count, size_t k) {
-    struct mespindro_stand stand = mespindro_standing(part(&table), table.length, part(&column), column.length, count, k);
-    struct mespindro_part thread = mespindro_thread(part(&table), table.length, part(&column), column.length, count, k);
+    struct mespindro_stand stand = CALL(standing)(part(&table), table.length, part(&column), column.length, count, k);
+    struct mespindro_part thread = CALL(thread)(part(&table), table.length, part(&column), column.length, count, k);
     printf("thread %zu: standing %u, refusal %u, start %zu, length %zu\n", k, (unsigned)stand.standing, (unsigned)stand.refusal, thread.start,
            thread.length);
 }

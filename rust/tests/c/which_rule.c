@@ -1,7 +1,7 @@
 /* Prints every field of what a step and a run answer, accepted and refused, for the program of a text: rust/tests/tests/which_rule.rs knows what
  * it must be. Each field is printed by its name, so that one that arrives in another's place is seen.
  */
-#include <mespindro.h>
+#include "size.h"
 #include <stddef.h>
 #include <stdint.h>
 #include <stdio.h>
@@ -36,19 +36,17 @@ _Static_assert(MESPINDRO_RULE_GUARD == 4, "guard");
 _Static_assert(MESPINDRO_RULE_UNIF == 5, "unif");
 _Static_assert(MESPINDRO_RULE_FAIL == 6, "fail");
 
-static uint8_t text[MESPINDRO_TEXT + 1];
-static uint16_t table[MESPINDRO_TABLE], column[MESPINDRO_COLUMN];
-static uint16_t work[MESPINDRO_TABLE], work_column[MESPINDRO_COLUMN];
+static uint8_t text[TEXT + 1];
+static uint16_t table[TABLE], column[COLUMN];
+static uint16_t work[TABLE], work_column[COLUMN];
 
 static void step(size_t count) {
-    struct mespindro_move move = mespindro_step(table, MESPINDRO_TABLE, column, MESPINDRO_COLUMN, count, work, MESPINDRO_TABLE, work_column,
-                                                MESPINDRO_COLUMN);
+    struct mespindro_move move = CALL(step)(table, TABLE, column, COLUMN, count, work, TABLE, work_column, COLUMN);
     printf("step: nodes %zu, thread %lu, rule %u, refusal %u\n", move.nodes, (unsigned long)move.thread, (unsigned)move.rule, (unsigned)move.refusal);
 }
 
 static size_t run(size_t count) {
-    struct mespindro_stop stop = mespindro_run(table, MESPINDRO_TABLE, column, MESPINDRO_COLUMN, count, work, MESPINDRO_TABLE, work_column,
-                                               MESPINDRO_COLUMN, 1000);
+    struct mespindro_stop stop = CALL(run)(table, TABLE, column, COLUMN, count, work, TABLE, work_column, COLUMN, 1000);
     printf("run: nodes %zu, steps %lu, alloc %lu, beta %lu, fresh %lu, guard %lu, unif %lu, fail %lu, reason %u, refusal %u\n", stop.nodes,
            (unsigned long)stop.steps, (unsigned long)stop.counts.alloc, (unsigned long)stop.counts.beta, (unsigned long)stop.counts.fresh,
            (unsigned long)stop.counts.guard, (unsigned long)stop.counts.unif, (unsigned long)stop.counts.fail, (unsigned)stop.reason,
@@ -65,7 +63,7 @@ int main(int count, char **arguments) {
     }
     size_t length = fread(text, 1, sizeof text, file);
     fclose(file);
-    struct mespindro_count read = mespindro_read(text, length, table, MESPINDRO_TABLE, column, MESPINDRO_COLUMN);
+    struct mespindro_count read = CALL(read)(text, length, table, TABLE, column, COLUMN);
     step(read.count);
     size_t nodes = run(read.count);
     step(nodes);

@@ -1,9 +1,10 @@
-//! Each call made in the library and in the evaluator on the same input, in lent memory with margins: one function a call.
+//! Each call made in the library and in the evaluator at the same size on the same input, in lent memory with margins: one function a call.
 //!
 //! A comparison answers `Err` with what differs, `Ok(None)` where the evaluator cannot tell.
 
 use crate::evaluator::table::OwnTable;
-use crate::evaluator::{self, Lengths};
+use crate::evaluator::{self, Lengths, Size};
+use crate::library::Library;
 use mespindro::{Refusal, Table, TableMut};
 
 /// A call with all it depends on; outputs and work tables by their lengths.
@@ -51,20 +52,20 @@ pub enum Outcome {
     Refused(Refusal),
 }
 
-/// Compares one call.
-pub fn compare(call: &Call) -> Comparison {
+/// Compares one call at a size.
+pub fn compare(size: Size, call: &Call) -> Comparison {
     match call {
-        Call::Read { text, out } => read(text, *out),
-        Call::Write { table, count, out } => write(table.lent(), *count, *out),
-        Call::Step { table, count, out } => step(table.lent(), *count, *out),
+        Call::Read { text, out } => read(size, text, *out),
+        Call::Write { table, count, out } => write(size, table.lent(), *count, *out),
+        Call::Step { table, count, out } => step(size, table.lent(), *count, *out),
         Call::Run {
             table,
             count,
             work,
             most,
-        } => run(table.lent(), *count, *work, *most),
-        Call::Standing { table, count, k } => standing(table.lent(), *count, *k),
-        Call::Thread { table, count, k } => thread(table.lent(), *count, *k),
+        } => run(size, table.lent(), *count, *work, *most),
+        Call::Standing { table, count, k } => standing(size, table.lent(), *count, *k),
+        Call::Thread { table, count, k } => thread(size, table.lent(), *count, *k),
     }
 }
 
@@ -78,8 +79,8 @@ pub struct Tally {
 
 impl Tally {
     /// Compares one call and counts it.
-    pub fn compare(&mut self, call: &Call) -> Result<(), String> {
-        match compare(call)? {
+    pub fn compare(&mut self, size: Size, call: &Call) -> Result<(), String> {
+        match compare(size, call)? {
             Some(Outcome::Accepted) => self.accepted += 1,
             Some(Outcome::Refused(refusal)) => self.refused[usize::from(refusal.number())] += 1,
             None => self.untold += 1,
@@ -105,23 +106,23 @@ impl std::fmt::Display for Tally {
     }
 }
 
-pub fn read(text: &[u8], out: Lengths) -> Comparison {
+pub fn read(size: Size, text: &[u8], out: Lengths) -> Comparison {
     let text = Lent::holding(text);
     let mut output = LentTable::filled(out, text.part().len());
-    let got = mespindro::read(text.part(), output.part_mut());
-    let expected = evaluator::read(text.part(), out);
+    let got = (Library::at(size).read)(text.part(), output.part_mut());
+    let expected = evaluator::read(size, text.part(), out);
     text.kept("the text")?;
     let counted = expected.as_ref().map(|table| table.column.len());
     same("the answer", &got, &counted.map_err(|r| *r))?;
-    output.has("the output", expected.as_ref().ok())?;
+    output.has(size, "the output", expected.as_ref().ok())?;
     Ok(Some(outcome(&expected)))
 }
 
-pub fn write(table: Table<'_>, count: usize, out: usize) -> Comparison {
+pub fn write(size: Size, table: Table<'_>, count: usize, out: usize) -> Comparison {
     let table = LentTable::holding(table);
     let mut output = Lent::filled(FILL as u8, out);
-    let got = mespindro::write(table.part(), count, output.part_mut());
-    let expected = evaluator::write(table.part(), count, out);
+    let got = (Library::at(size).write)(table.part(), count, output.part_mut());
+    let expected = evaluator::write(size, table.part(), count, out);
     table.kept("the table")?;
     let counted = expected.as_ref().map(Vec::len);
     same("the answer", &got, &counted.map_err(|r| *r))?;
@@ -129,35 +130,35 @@ pub fn write(table: Table<'_>, count: usize, out: usize) -> Comparison {
     Ok(Some(outcome(&expected)))
 }
 
-pub fn step(table: Table<'_>, count: usize, out: Lengths) -> Comparison {
+pub fn step(size: Size, table: Table<'_>, count: usize, out: Lengths) -> Comparison {
     let table = LentTable::holding(table);
     let mut output = LentTable::filled(out, count);
-    let got = mespindro::step(table.part(), count, output.part_mut());
+    let got = (Library::at(size).step)(table.part(), count, output.part_mut());
     table.kept("the table")?;
-    let Some(expected) = evaluator::step(table.part(), count, out) else {
+    let Some(expected) = evaluator::step(size, table.part(), count, out) else {
         return Ok(None);
     };
     let answer = expected.as_ref().map(|(made, _)| *made).map_err(|r| *r);
     same("the answer", &got, &answer)?;
     let result = expected.as_ref().map(|(_, result)| result);
-    output.has("the output", result.ok())?;
+    output.has(size, "the output", result.ok())?;
     Ok(Some(outcome(&expected)))
 }
 
-pub fn run(table: Table<'_>, count: usize, work: Lengths, most: u32) -> Comparison {
-    let Some(expected) = evaluator::run(table, count, work, most) else {
+pub fn run(size: Size, table: Table<'_>, count: usize, work: Lengths, most: u32) -> Comparison {
+    let Some(expected) = evaluator::run(size, table, count, work, most) else {
         return Ok(None);
     };
     let mut lent = LentTable::holding(table);
     let mut worked = LentTable::filled(work, count);
-    let got = mespindro::run(lent.part_mut(), count, worked.part_mut(), most);
+    let got = (Library::at(size).run)(lent.part_mut(), count, worked.part_mut(), most);
     let answer = expected.as_ref().map(|(stop, _)| *stop).map_err(|r| *r);
     same("the answer", &got, &answer)?;
     match &expected {
         Ok((stop, end)) => {
             lent.has_and_zeros("the table", &end.numbers, &end.column)?;
             worked.has_and_zeros("the work table", &[], &[])?;
-            taken_again("the table", lent.part(), stop.nodes)?;
+            taken_again(size, "the table", lent.part(), stop.nodes)?;
         }
         Err(_) => {
             lent.kept("the table")?;
@@ -167,20 +168,20 @@ pub fn run(table: Table<'_>, count: usize, work: Lengths, most: u32) -> Comparis
     Ok(Some(outcome(&expected)))
 }
 
-pub fn standing(table: Table<'_>, count: usize, k: usize) -> Comparison {
+pub fn standing(size: Size, table: Table<'_>, count: usize, k: usize) -> Comparison {
     let table = LentTable::holding(table);
-    let got = mespindro::standing(table.part(), count, k);
-    let expected = evaluator::standing(table.part(), count, k);
+    let got = (Library::at(size).standing)(table.part(), count, k);
+    let expected = evaluator::standing(size, table.part(), count, k);
     table.kept("the table")?;
     same("the standing", &got, &expected)?;
     Ok(Some(outcome(&expected)))
 }
 
-pub fn thread(table: Table<'_>, count: usize, k: usize) -> Comparison {
+pub fn thread(size: Size, table: Table<'_>, count: usize, k: usize) -> Comparison {
     let table = LentTable::holding(table);
     let numbers = table.numbers.part();
-    let got = mespindro::thread(table.part(), count, k);
-    let expected = evaluator::thread(table.part(), count, k);
+    let got = (Library::at(size).thread)(table.part(), count, k);
+    let expected = evaluator::thread(size, table.part(), count, k);
     match expected {
         Ok((start, end)) => {
             same("the part", &got, &&numbers[start..end])?;
@@ -202,8 +203,8 @@ pub fn thread(table: Table<'_>, count: usize, k: usize) -> Comparison {
 }
 
 /// That the library takes what it has left: it comes as far as the thread number, which is past every thread.
-fn taken_again(what: &str, left: Table<'_>, count: usize) -> Result<(), String> {
-    let again = mespindro::standing(left, count, usize::MAX);
+fn taken_again(size: Size, what: &str, left: Table<'_>, count: usize) -> Result<(), String> {
+    let again = (Library::at(size).standing)(left, count, usize::MAX);
     same(&format!("{what} again"), &again, &Err(Refusal::NoThread))
 }
 
@@ -282,14 +283,14 @@ impl LentTable {
     }
 
     /// That a result stands at the front and the library takes it again; without one, that all is as it was.
-    fn has(&self, what: &str, result: Option<&OwnTable>) -> Result<(), String> {
+    fn has(&self, size: Size, what: &str, result: Option<&OwnTable>) -> Result<(), String> {
         let Some(result) = result else {
             return self.kept(what);
         };
         self.numbers.has_front(what, &result.numbers)?;
         self.column
             .has_front(&format!("{what}'s column"), &result.column)?;
-        taken_again(what, self.part(), result.column.len())
+        taken_again(size, what, self.part(), result.column.len())
     }
 
     /// That these numbers and entries stand at the front and zeros behind them, to the very end of each.

@@ -101,11 +101,13 @@ fn one_off(entry: u16, random: &mut Random) -> u16 {
 /// From the place to the program's end and further.
 fn far(place: usize, count: usize, random: &mut Random) -> u16 {
     let left = count - place;
-    let any = [left, left + 1, count, count + 1, 2 * count, 2047, 2048];
-    match random.below(4) {
+    let any = [left, left + 1, count, count + 1, 2 * count];
+    let limits = [2047, 2048, 16_383, 16_384];
+    match random.below(5) {
         0 => 65535,
         // where 16 bits are not enough for the sum, this comes to a place of the program again
         1 => (65536 - random.between(1, place + 1)) as u16,
+        2 => random.pick(&limits),
         _ => random.pick(&any) as u16,
     }
 }

@@ -2,39 +2,43 @@
 
 use crate::evaluator::step::{step, Step};
 use crate::evaluator::text::{program_expression, put_expression, write_text, Expression};
-use crate::evaluator::tree::{application, fresh, guard, program_size, unification, Program, Term};
-use crate::evaluator::NODES;
+use crate::evaluator::tree::{
+    application, fresh, guard, program_size, term_size, unification, Program, Term,
+};
+use crate::evaluator::Size;
 use crate::random::Random;
 
 /// A program that is closed, coherent, in range and not too large.
-pub fn sound_program(random: &mut Random) -> Program {
-    let none = Faults {
-        indices: 0,
-        closures: 0,
-    };
-    let mut program = program(random, none);
-    while program_size(&program) > NODES {
+pub fn sound_program(size: Size, random: &mut Random) -> Program {
+    let mut program = program(size, random, NO_FAULTS);
+    while program_size(&program) > size.nodes {
         program.pop();
     }
     program
 }
 
 /// A sound program after some steps.
-pub fn worked_program(random: &mut Random) -> Program {
-    let mut program = sound_program(random);
+pub fn worked_program(size: Size, random: &mut Random) -> Program {
+    let mut program = sound_program(size, random);
     for _ in 0..random.between(1, 20) {
         match step(&program) {
-            Step::To(_, _, next) if program_size(&next) <= NODES => program = next,
+            Step::To(_, _, next) if program_size(&next) <= size.nodes => program = next,
             _ => break,
         }
     }
     program
 }
 
-/// A sound program of about as many nodes as there may be: the threads of a smaller one over and over.
-pub fn large_program(random: &mut Random) -> Program {
-    let nodes = random.pick(&[500, 1000, NODES]);
-    let threads = worked_program(random);
+/// A sound program of about as many nodes as there may be at either size: one thread, or the threads of a smaller one over and over.
+pub fn large_program(size: Size, random: &mut Random) -> Program {
+    let small = Size::SMALL.nodes;
+    let nodes = random.pick(&[1000, small, small + 40, size.nodes]);
+    let nodes = nodes.min(size.nodes);
+    if random.one_in(2) {
+        return large_thread(size, nodes, random);
+    }
+    let mut threads = worked_program(size, random);
+    threads.push(sound_leaf(random));
     let mut program = Vec::new();
     for thread in threads.iter().cycle() {
         program.push(thread.clone());
@@ -46,20 +50,37 @@ pub fn large_program(random: &mut Random) -> Program {
     program
 }
 
-/// A program in which a bound variable may have no binder and a thread may be incoherent.
-pub fn faulty_program(random: &mut Random) -> Program {
-    let (indices, closures) = random.pick(&[(12, 0), (0, 5), (0, 5), (20, 5)]);
-    program(random, Faults { indices, closures })
+/// A program of one thread of nearly so many nodes: lively terms beside each other.
+fn large_thread(size: Size, nodes: usize, random: &mut Random) -> Program {
+    let mut thread = Thread::new(size, random, NO_FAULTS);
+    let mut whole = thread.lively(100, 0);
+    loop {
+        let part = thread.lively(200, 0);
+        if term_size(&whole) + term_size(&part) + 3 > nodes {
+            return vec![whole];
+        }
+        whole = match thread.random.below(3) {
+            0 => application(whole, part),
+            1 => application(part, whole),
+            _ => guard(part, whole),
+        };
+    }
 }
 
-fn program(random: &mut Random, faults: Faults) -> Program {
+/// A program in which a bound variable may have no binder and a thread may be incoherent.
+pub fn faulty_program(size: Size, random: &mut Random) -> Program {
+    let (indices, closures) = random.pick(&[(12, 0), (0, 5), (0, 5), (20, 5)]);
+    program(size, random, Faults { indices, closures })
+}
+
+fn program(size: Size, random: &mut Random, faults: Faults) -> Program {
     let threads = random.pick(&[0, 1, 1, 1, 2, 2, 3, 5]);
     let budget = random.pick(&[4, 8, 16, 16, 32, 32, 64, 64, 100, 500]);
     (0..threads)
         .map(|_| match random.below(12) {
             0 => growing(random),
-            1 => many_names(random),
-            _ => Thread::new(random, faults).lively(budget, 0),
+            1 => many_names(size, random),
+            _ => Thread::new(size, random, faults).lively(budget, 0),
         })
         .collect()
 }
@@ -96,7 +117,7 @@ fn growing(random: &mut Random) -> Term {
 
 /// A thread with more names of one kind than one pass of the search looks for, some of them in a body, and what asks for one more of them or,
 /// now and then, of the other kind.
-fn many_names(random: &mut Random) -> Term {
+fn many_names(size: Size, random: &mut Random) -> Term {
     let count = random.between(65, 200) as u16;
     let least = random.pick(&[0, 64]);
     let left_out = random.between(least, usize::from(count)) as u16;
@@ -110,12 +131,19 @@ fn many_names(random: &mut Random) -> Term {
     });
     let (inside, outside): (Vec<_>, Vec<_>) = elements.partition(|_| random.one_in(3));
     let structure = outside.into_iter().fold(Term::Constructor(9), application);
-    let names = application(structure, Term::Allocated(2047, inside));
+    let names = application(structure, Term::Allocated(size.largest(), inside));
     let asks = match asks_variable {
         true => fresh(Term::Bound(0)),
         false => Term::Abstraction(vec![Term::Bound(0)]),
     };
     application(names, asks)
+}
+
+/// A number at the end of the names of either size.
+fn far_name(size: Size, random: &mut Random) -> u16 {
+    let (small, largest) = (Size::SMALL.largest(), size.largest());
+    let name = random.pick(&[small, small + 1, largest - 1, largest]);
+    name.min(largest)
 }
 
 fn sound_leaf(random: &mut Random) -> Term {
@@ -156,22 +184,30 @@ struct Faults {
     closures: usize,
 }
 
+const NO_FAULTS: Faults = Faults {
+    indices: 0,
+    closures: 0,
+};
+
 /// What the terms of one thread have in common: its allocated abstractions.
 struct Thread<'r> {
+    size: Size,
     random: &'r mut Random,
     faults: Faults,
     closures: Vec<(u16, Program)>,
 }
 
 impl Thread<'_> {
-    fn new(random: &mut Random, faults: Faults) -> Thread<'_> {
+    fn new(size: Size, random: &mut Random, faults: Faults) -> Thread<'_> {
         let mut thread = Thread {
+            size,
             random,
             faults,
             closures: Vec::new(),
         };
         for _ in 0..thread.random.below(4) {
-            let location = thread.random.pick(&[0, 1, 2, 3, 7, 2046, 2047]);
+            let far = far_name(size, thread.random);
+            let location = thread.random.pick(&[0, 1, 2, 3, 7, far]);
             let body = thread.body(6, 0);
             // a body made so far has only locations made before it, so no closure holds its own
             if thread.closures.iter().all(|(l, _)| *l != location) {
@@ -236,7 +272,8 @@ impl Thread<'_> {
     }
 
     fn variable(&mut self) -> Term {
-        Term::Free(self.random.pick(&[0, 0, 1, 1, 2, 3, 4, 5, 2047]))
+        let far = far_name(self.size, self.random);
+        Term::Free(self.random.pick(&[0, 0, 1, 1, 2, 3, 4, 5, far]))
     }
 
     fn constructor(&mut self) -> Term {
@@ -317,20 +354,20 @@ impl Thread<'_> {
 }
 
 /// A text: of a program, damaged, of nearly the right form, or of the letters of texts only.
-pub fn text(random: &mut Random) -> Vec<u8> {
+pub fn text(size: Size, random: &mut Random) -> Vec<u8> {
     if random.one_in(60) {
-        return large_text(random);
+        return large_text(size, random);
     }
     match random.below(11) {
-        0 => write_text(&sound_program(random)),
-        1 => write_text(&faulty_program(random)),
-        2 | 3 => odd_form(random),
-        4 => odd_numbers(random),
+        0 => write_text(&sound_program(size, random)),
+        1 => write_text(&faulty_program(size, random)),
+        2 | 3 => odd_form(size, random),
+        4 => odd_numbers(size, random),
         5 => letters(random),
         _ => {
-            let mut text = write_text(&faulty_program(random));
+            let mut text = write_text(&faulty_program(size, random));
             for _ in 0..random.pick(&[1, 1, 1, 2, 4]) {
-                damage(&mut text, random);
+                damage(size, &mut text, random);
             }
             text
         }
@@ -338,8 +375,8 @@ pub fn text(random: &mut Random) -> Vec<u8> {
 }
 
 /// The text of a program's expression with members dropped, doubled, replaced, and numbers and tags changed.
-fn odd_form(random: &mut Random) -> Vec<u8> {
-    let mut expression = program_expression(&faulty_program(random));
+fn odd_form(size: Size, random: &mut Random) -> Vec<u8> {
+    let mut expression = program_expression(&faulty_program(size, random));
     for _ in 0..random.between(1, 3) {
         let place = random.below(40);
         change_form(&mut expression, &mut { place }, random);
@@ -350,8 +387,8 @@ fn odd_form(random: &mut Random) -> Vec<u8> {
 }
 
 /// The text of a program in which some numbers are of another form or out of their range.
-fn odd_numbers(random: &mut Random) -> Vec<u8> {
-    let mut expression = program_expression(&faulty_program(random));
+fn odd_numbers(size: Size, random: &mut Random) -> Vec<u8> {
+    let mut expression = program_expression(&faulty_program(size, random));
     change_numbers(&mut expression, random);
     let mut text = Vec::new();
     put_expression(&expression, &mut text);
@@ -372,14 +409,15 @@ fn change_numbers(expression: &mut Expression, random: &mut Random) {
     }
 }
 
-/// The text of a program's threads over and over, about as many nodes as a program may have.
-fn large_text(random: &mut Random) -> Vec<u8> {
+/// The text of a program's threads over and over, about as many nodes as a program may have at either size.
+fn large_text(size: Size, random: &mut Random) -> Vec<u8> {
     let threads = match random.below(3) {
-        0 => faulty_program(random),
-        _ => sound_program(random),
+        0 => faulty_program(size, random),
+        _ => sound_program(size, random),
     };
     let mut program = Vec::new();
-    let nodes = random.between(2000, 2080);
+    let limit = random.pick(&[Size::SMALL.nodes, size.nodes]);
+    let nodes = random.between(limit - 48, limit + 32);
     while !threads.is_empty() && program_size(&program) < nodes {
         program.push(threads[program.len() % threads.len()].clone());
         program.push(Term::Constructor(1));
@@ -405,7 +443,7 @@ fn change_form(expression: &mut Expression, left: &mut usize, random: &mut Rando
 }
 
 /// Atoms for a number's place: plain decimals in and out of range, and others.
-const NUMBERS: [&str; 18] = [
+const NUMBERS: [&str; 20] = [
     "0",
     "1",
     "2",
@@ -417,6 +455,8 @@ const NUMBERS: [&str; 18] = [
     "-1",
     "2047",
     "2048",
+    "16383",
+    "16384",
     "65535",
     "65536",
     "x",
@@ -490,7 +530,7 @@ fn letters(random: &mut Random) -> Vec<u8> {
 }
 
 /// One change of the bytes: cut, flipped, lengthened, joined, a leading zero.
-fn damage(text: &mut Vec<u8>, random: &mut Random) {
+fn damage(size: Size, text: &mut Vec<u8>, random: &mut Random) {
     let place = random.below(text.len() + 1);
     let byte = random.pick(b"()0123456789:vxclLangu \n\0\xff");
     match random.below(9) {
@@ -499,7 +539,7 @@ fn damage(text: &mut Vec<u8>, random: &mut Random) {
         2 if place < text.len() => text[place] = byte,
         3 => text.insert(place, byte),
         4 => text.push(byte),
-        5 => text.extend(write_text(&sound_program(random))),
+        5 => text.extend(write_text(&sound_program(size, random))),
         6 if place < text.len() => {
             text.remove(place);
         }
@@ -525,7 +565,7 @@ pub fn any_table(random: &mut Random) -> Vec<u16> {
     let number = |random: &mut Random, place: usize| match place % 2 {
         _ if wild => random.draw() as u16,
         0 => random.pick(&[0, 0, 1, 1, 1, 2, 3, 4, 4, 5, 6, 7, 8, 9, 10, 11, 12]),
-        _ => random.pick(&[0, 0, 0, 0, 0, 0, 1, 2, 2047, 2048, 65535]),
+        _ => random.pick(&[0, 0, 0, 0, 0, 0, 1, 2, 2047, 2048, 16383, 16384, 65535]),
     };
     (0..length).map(|place| number(random, place)).collect()
 }
@@ -536,7 +576,10 @@ pub fn damaged_table(table: &[u16], random: &mut Random) -> Vec<u16> {
     for _ in 0..random.between(1, 3) {
         let place = random.below(table.len());
         match random.below(5) {
-            0 => table[place] = random.pick(&[0, 1, 2, 4, 6, 8, 10, 11, 2047, 2048, 65535]),
+            0 => {
+                table[place] =
+                    random.pick(&[0, 1, 2, 4, 6, 8, 10, 11, 2047, 2048, 16383, 16384, 65535])
+            }
             1 => table[place] = table[place].wrapping_add(1),
             2 => table[place / 2 * 2] = random.below(12) as u16,
             3 if table.len() > 2 => {

@@ -3,7 +3,7 @@
 use crate::evaluator::column::column;
 use crate::evaluator::table::{decode, OwnTable};
 use crate::evaluator::tree::Term;
-use crate::evaluator::{Lengths, NODES};
+use crate::evaluator::{Lengths, Size};
 use mespindro::TableMut;
 
 /// What stands in lent memory before a call, and behind a program that is lent.
@@ -12,8 +12,8 @@ pub const BEFORE: u16 = 7;
 impl Lengths {
     /// That hold every program.
     pub const FULL: Lengths = Lengths {
-        numbers: 2 * NODES,
-        column: NODES,
+        numbers: 2 * Size::LARGE.nodes,
+        column: Size::LARGE.nodes,
     };
 
     /// That hold nothing.
@@ -46,7 +46,7 @@ impl OwnTable {
 
     /// These numbers with the column of the program that they are; with none where they are no program of so many nodes.
     pub fn of_numbers(numbers: &[u16], count: usize) -> OwnTable {
-        let program = decode(numbers, count);
+        let program = decode(Size::LARGE, numbers, count);
         OwnTable {
             numbers: numbers.to_vec(),
             column: program.map_or_else(Vec::new, |program| column(&program)),

@@ -6,6 +6,8 @@ pub mod damage;
 pub mod evaluator;
 pub mod generate;
 pub mod lending;
+pub mod library;
+pub mod one_a_line;
 pub mod progress;
 pub mod random;
 pub mod short;

@@ -4,43 +4,40 @@ use crate::compare::{compare, Call};
 use crate::evaluator::column::column;
 use crate::evaluator::table::{decode, OwnTable};
 use crate::evaluator::text::{parse, put_expression, Expression};
-use crate::evaluator::{Lengths, NODES, TEXT};
+use crate::evaluator::{Lengths, Size};
 
 /// The smallest call found that still differs: parts are dropped as long as it does.
-pub fn shrink(call: Call) -> Call {
+pub fn shrink(size: Size, call: Call) -> Call {
+    let differs = |call: &Call| compare(size, call).is_err();
     // lengths and limits that were chosen for the larger program would hold it as it is
-    let mut call = Some(roomy(&call)).filter(differs).unwrap_or(call);
-    while let Some(smaller) = candidates(&call).into_iter().find(differs) {
+    let mut call = Some(roomy(size, &call)).filter(differs).unwrap_or(call);
+    while let Some(smaller) = candidates(size, &call).into_iter().find(differs) {
         call = smaller;
     }
     call
 }
 
 /// The call with a large output or work table and a limit of some steps.
-fn roomy(call: &Call) -> Call {
+fn roomy(size: Size, call: &Call) -> Call {
     let mut call = call.clone();
-    let large = Lengths::for_nodes(NODES);
+    let large = Lengths::for_nodes(size.nodes);
     match &mut call {
         Call::Read { out, .. } | Call::Step { out, .. } => *out = large,
-        Call::Write { out, .. } => *out = TEXT,
+        Call::Write { out, .. } => *out = size.text(),
         Call::Run { work, most, .. } => (*work, *most) = (large, 60),
         Call::Standing { .. } | Call::Thread { .. } => {}
     }
     call
 }
 
-fn differs(call: &Call) -> bool {
-    compare(call).is_err()
-}
-
 /// Calls that are a little smaller, the much smaller ones first.
-fn candidates(call: &Call) -> Vec<Call> {
-    let mut calls = with_smaller_input(call);
+fn candidates(size: Size, call: &Call) -> Vec<Call> {
+    let mut calls = with_smaller_input(size, call);
     calls.extend(with_smaller_numbers(call));
     calls
 }
 
-fn with_smaller_input(call: &Call) -> Vec<Call> {
+fn with_smaller_input(size: Size, call: &Call) -> Vec<Call> {
     match call {
         Call::Read { text, out } => {
             let mut texts = without_parts(text, 1);
@@ -53,7 +50,7 @@ fn with_smaller_input(call: &Call) -> Vec<Call> {
         | Call::Step { table, count, .. }
         | Call::Run { table, count, .. }
         | Call::Standing { table, count, .. }
-        | Call::Thread { table, count, .. } => smaller_tables(table, *count)
+        | Call::Thread { table, count, .. } => smaller_tables(size, table, *count)
             .into_iter()
             .map(|(table, count)| with_table(call, table, count))
             .collect(),
@@ -124,17 +121,17 @@ fn smaller_lengths(lengths: Lengths) -> Vec<Lengths> {
 }
 
 /// The tables with fewer nodes, with a subtree made a constructor, with a shorter tail, with fewer faults in the column.
-fn smaller_tables(table: &OwnTable, count: usize) -> Vec<(OwnTable, usize)> {
+fn smaller_tables(size: Size, table: &OwnTable, count: usize) -> Vec<(OwnTable, usize)> {
     let nodes = count.min(table.numbers.len() / 2);
     let (program, tail) = table.numbers.split_at(2 * nodes);
-    let right = right_column(&table.numbers, count);
+    let right = right_column(size, &table.numbers, count);
     let mut tables = Vec::new();
     let mut shorter = without_parts(program, 2);
     shorter.extend(without_subtrees(program));
     for program in shorter {
         let fewer = count - (nodes - program.len() / 2);
         let numbers = [&program, tail].concat();
-        let column = match (&right, right_column(&numbers, fewer)) {
+        let column = match (&right, right_column(size, &numbers, fewer)) {
             (Some(old), Some(new)) => with_same_faults(&table.column, old, new),
             _ => table.column.clone(),
         };
@@ -153,8 +150,8 @@ fn smaller_tables(table: &OwnTable, count: usize) -> Vec<(OwnTable, usize)> {
 }
 
 /// The column of the program that a table holds, if it holds one.
-fn right_column(numbers: &[u16], count: usize) -> Option<Vec<u16>> {
-    decode(numbers, count).map(|program| column(&program))
+fn right_column(size: Size, numbers: &[u16], count: usize) -> Option<Vec<u16>> {
+    decode(size, numbers, count).map(|program| column(&program))
 }
 
 /// A right column with the faults that another has against its own right one: wrong entries, missing ones, numbers behind.

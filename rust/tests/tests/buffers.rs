@@ -1,8 +1,9 @@
-//! What each call leaves in lent memory.
+//! What each call leaves in lent memory, the same at both sizes.
 
 use mespindro::{Move, Reason, Refusal, Rule, Standing, Stop};
 use mespindro_tests::evaluator::counts;
 use mespindro_tests::evaluator::table::OwnTable;
+use mespindro_tests::library::at_both;
 
 /// The table of `((g c1 c2))`, 5 nodes, and its column.
 const G: [u16; 10] = [1, 0, 9, 0, 4, 1, 4, 2, 0, 0];
@@ -29,8 +30,11 @@ fn run(
     expected: Result<Stop, Refusal>,
     (table_after, work_after): (&OwnTable, &OwnTable),
 ) {
-    let (mut table, mut work) = (table.clone(), work.clone());
-    let got = mespindro::run(table.lent_mut(), count, work.lent_mut(), most);
+    let (got, table, work) = at_both(|library| {
+        let (mut table, mut work) = (table.clone(), work.clone());
+        let got = (library.run)(table.lent_mut(), count, work.lent_mut(), most);
+        (got, table, work)
+    });
     assert_eq!(got, expected);
     assert_eq!(table, *table_after);
     assert_eq!(work, *work_after);
@@ -93,10 +97,13 @@ fn refused_runs_change_nothing() {
 
 /// A step of `((g c1 c2))` into memory of 5s that then holds this.
 fn step(expected: Result<Move, Refusal>, numbers: &[u16], column: &[u16]) {
-    let mut out = memory(&vec![5; numbers.len()], &vec![5; column.len()]);
     let table = with(&[], &[]);
-    assert_eq!(mespindro::step(table.lent(), 5, out.lent_mut()), expected);
-    assert_eq!(out, memory(numbers, column));
+    let left = at_both(|library| {
+        let mut out = memory(&vec![5; numbers.len()], &vec![5; column.len()]);
+        let got = (library.step)(table.lent(), 5, out.lent_mut());
+        (got, out)
+    });
+    assert_eq!(left, (expected, memory(numbers, column)));
 }
 
 #[test]
@@ -120,19 +127,21 @@ fn a_step_fills_the_front_of_its_output() {
 fn threads() {
     let own = with(&[], &[]);
     let table = own.lent();
-    assert_eq!(mespindro::standing(table, 5, 0), Ok(Standing::Open));
-    let part = mespindro::thread(table, 5, 0);
-    assert_eq!(part, [9, 0, 4, 1, 4, 2]);
+    let standing = |k| at_both(|library| (library.standing)(table, 5, k));
+    let thread = |k| at_both(|library| (library.thread)(table, 5, k));
+    assert_eq!(standing(0), Ok(Standing::Open));
+    assert_eq!(thread(0), [9, 0, 4, 1, 4, 2]);
     let own_part = own.numbers[2..].as_ptr();
-    assert_eq!(part.as_ptr(), own_part, "the caller's own numbers");
+    let part = at_both(|library| (library.thread)(table, 5, 0).as_ptr());
+    assert_eq!(part, own_part, "the caller's own numbers");
     for k in [1, usize::MAX] {
-        assert_eq!(mespindro::standing(table, 5, k), Err(Refusal::NoThread));
-        assert!(mespindro::thread(table, 5, k).is_empty());
+        assert_eq!(standing(k), Err(Refusal::NoThread));
+        assert!(thread(k).is_empty());
     }
     // thread 0 is coherent, thread 1 is not
     let b14 = [1, 0, 6, 0, 0, 0, 1, 0, 8, 0, 6, 0, 1, 0, 2, 1, 0, 0, 0, 0];
     let b14 = memory(&b14, &[10, 2, 1, 7, 5, 4, 3, 1, 1, 1]);
-    let standing = mespindro::standing(b14.lent(), 10, 0);
+    let standing = at_both(|library| (library.standing)(b14.lent(), 10, 0));
     assert_eq!(standing, Err(Refusal::Incoherent));
     println!("B12, B13, B14: 4 cases");
 }

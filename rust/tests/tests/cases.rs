@@ -1,13 +1,16 @@
-//! The cases with known ends of tests/cases, through the library and through the evaluator.
+//! The cases with known ends of tests/cases, through the library at both sizes and through the evaluator. Those that name no room have that of
+//! document 01, 2,048 nodes.
 
-use mespindro::{Counts, Move, Reason, Refusal, Rule, Standing, Stop};
+use mespindro::{small, Counts, Move, Reason, Refusal, Rule, Standing, Stop};
 use mespindro_tests::calls::on_program;
 use mespindro_tests::compare::{Call, Tally};
 use mespindro_tests::evaluator::table::OwnTable;
 use mespindro_tests::evaluator::text::write_text;
 use mespindro_tests::evaluator::tree::Program;
-use mespindro_tests::evaluator::{self, Lengths, NODES, TEXT};
+use mespindro_tests::evaluator::{self, Lengths, Size};
+use mespindro_tests::library::{at_both, Library};
 use mespindro_tests::on_big_stack;
+use mespindro_tests::one_a_line::{at_size, lines, written_out};
 use mespindro_tests::random::Random;
 use mespindro_tests::short;
 
@@ -52,7 +55,7 @@ fn case(paragraph: &str) -> Case {
         name: name.to_string(),
         program,
         limit: number("limit").unwrap_or(10_000) as u32,
-        room: number("room").unwrap_or(NODES),
+        room: number("room").unwrap_or(Size::SMALL.nodes),
         end,
         nodes: number("nodes"),
         reason,
@@ -143,27 +146,31 @@ fn lengths(room: usize) -> [(Lengths, Lengths); 5] {
     ]
 }
 
-/// Reads the program's text and runs it by the library, in the case's room.
-fn by_library(case: &Case) {
+/// Reads the program's text and runs it by the library's calls of one size, in the case's room.
+fn by_library(library: &Library, case: &Case) {
     let name = &case.name;
     let exact = OwnTable::of(&case.program);
     for (lengths, work_lengths) in lengths(case.room) {
         let mut table = OwnTable::empty(lengths);
-        let count = mespindro::read(&write_text(&case.program), table.lent_mut());
+        let count = (library.read)(&write_text(&case.program), table.lent_mut());
         assert_eq!(count, Ok(exact.nodes()), "{name}");
         begins_with(name, &table, &exact);
         let mut work = OwnTable::empty(work_lengths);
-        let got = mespindro::run(table.lent_mut(), exact.nodes(), work.lent_mut(), case.limit);
+        let got = (library.run)(table.lent_mut(), exact.nodes(), work.lent_mut(), case.limit);
         let stop = got.unwrap_or_else(|refusal| panic!("{name}: {refusal:?}"));
-        check_stop(case, &stop, &table);
+        check_stop(library, case, &stop, &table);
         check_counts(case, &stop);
     }
     if let Some(rules) = &case.rules {
-        assert_eq!(&rules_told(&case.program, case.steps), rules, "{name}");
+        assert_eq!(
+            &rules_told(library, &case.program, case.steps),
+            rules,
+            "{name}"
+        );
     }
     if let Some(single) = case.single {
         let mut out = OwnTable::empty(Lengths::FULL);
-        let step = mespindro::step(exact.lent(), exact.nodes(), out.lent_mut());
+        let step = (library.step)(exact.lent(), exact.nodes(), out.lent_mut());
         assert_eq!(step, single, "{name}");
     }
 }
@@ -174,7 +181,7 @@ fn begins_with(name: &str, memory: &OwnTable, table: &OwnTable) {
     assert!(memory.column.starts_with(&table.column), "{name}");
 }
 
-fn check_stop(case: &Case, stop: &Stop, table: &OwnTable) {
+fn check_stop(library: &Library, case: &Case, stop: &Stop, table: &OwnTable) {
     let name = &case.name;
     assert_eq!(
         (stop.reason, stop.steps),
@@ -189,19 +196,19 @@ fn check_stop(case: &Case, stop: &Stop, table: &OwnTable) {
     }
     if let Some(standings) = &case.standings {
         for (k, standing) in standings.iter().enumerate() {
-            let got = mespindro::standing(table.lent(), stop.nodes, k);
+            let got = (library.standing)(table.lent(), stop.nodes, k);
             assert_eq!(got, Ok(*standing), "{name}");
         }
-        let past = mespindro::standing(table.lent(), stop.nodes, standings.len());
+        let past = (library.standing)(table.lent(), stop.nodes, standings.len());
         assert_eq!(past, Err(Refusal::NoThread), "{name}");
     }
     if let (1, Some(end)) = (case.steps, &case.end) {
-        single_step(name, &case.program, end);
+        single_step(library, name, &case.program, end);
     }
     // a single step of an ended program is refused, whatever the output
     if stop.reason == Reason::Ended {
         let mut none = OwnTable::empty(Lengths::NONE);
-        let step = mespindro::step(table.lent(), stop.nodes, none.lent_mut());
+        let step = (library.step)(table.lent(), stop.nodes, none.lent_mut());
         assert_eq!(step, Err(Refusal::Finished), "{name}");
     }
 }
@@ -218,12 +225,12 @@ fn check_counts(case: &Case, stop: &Stop) {
 }
 
 /// The rules that the library tells of so many single steps, one after another.
-fn rules_told(program: &Program, steps: u32) -> Vec<Rule> {
+fn rules_told(library: &Library, program: &Program, steps: u32) -> Vec<Rule> {
     let (mut table, mut out) = (OwnTable::of(program), OwnTable::empty(Lengths::FULL));
     let mut count = table.nodes();
     let mut rules = Vec::new();
     for _ in 0..steps {
-        let made = mespindro::step(table.lent(), count, out.lent_mut());
+        let made = (library.step)(table.lent(), count, out.lent_mut());
         let made = made.expect("the run has made this step");
         rules.push(made.rule);
         count = made.nodes;
@@ -233,7 +240,7 @@ fn rules_told(program: &Program, steps: u32) -> Vec<Rule> {
 }
 
 /// That the call of one step gives what a run of one step gives.
-fn single_step(name: &str, program: &Program, end: &Program) {
+fn single_step(library: &Library, name: &str, program: &Program, end: &Program) {
     let (table, end) = (OwnTable::of(program), OwnTable::of(end));
     let (numbers, column) = (end.numbers.len(), end.column.len());
     for lengths in [
@@ -243,7 +250,7 @@ fn single_step(name: &str, program: &Program, end: &Program) {
         Lengths::new(numbers, 4200),
     ] {
         let mut out = OwnTable::empty(lengths);
-        let step = mespindro::step(table.lent(), table.nodes(), out.lent_mut());
+        let step = (library.step)(table.lent(), table.nodes(), out.lent_mut());
         assert_eq!(step.map(|made| made.nodes), Ok(end.nodes()), "{name}");
         begins_with(name, &out, &end);
     }
@@ -283,12 +290,14 @@ fn check_file(name: &str, file: &str, number: usize) {
     let mut random = Random::new(5);
     on_big_stack(|| {
         for case in &cases {
-            by_library(case);
             by_evaluator(case);
-            for call in on_program(&case.program, &mut random) {
-                tally
-                    .compare(&call)
-                    .unwrap_or_else(|difference| panic!("{}: {difference}\n{call:?}", case.name));
+            for size in Size::BOTH {
+                by_library(Library::at(size), case);
+                for call in on_program(size, &case.program, &mut random) {
+                    tally.compare(size, &call).unwrap_or_else(|difference| {
+                        panic!("{}, {size:?}: {difference}\n{call:?}", case.name)
+                    });
+                }
             }
         }
     });
@@ -329,28 +338,9 @@ fn of_document_003() {
     );
 }
 
-/// The lines of a file of one case a line: what stands before the blank and `;`.
-fn lines(file: &str) -> impl Iterator<Item = &str> {
-    let lines = file.lines().filter(|line| !line.starts_with(';'));
-    lines.map(|line| line.rsplit_once(" ;").expect("a reason").0)
-}
-
 fn refusal(number: &str) -> Refusal {
     let number = number.parse().expect("a refusal's number");
     Refusal::of_number(number).expect("a refusal")
-}
-
-/// A text with its repeated pieces written out: `{3 ab}` is `ababab`. `\n` is a newline.
-fn written_out(text: &str) -> Vec<u8> {
-    let (mut out, mut rest) = (String::new(), text);
-    while let Some((before, behind)) = rest.split_once('{') {
-        let (inside, after) = behind.split_once('}').expect("a closing brace");
-        let (times, piece) = inside.split_once(' ').expect("a number and a piece");
-        out += before;
-        out += &piece.repeat(times.parse().expect("a number"));
-        rest = after;
-    }
-    (out + rest).replace("\\n", "\n").into_bytes()
 }
 
 /// Numbers with a comma between them.
@@ -368,10 +358,10 @@ fn numbers<'a>(words: impl Iterator<Item = &'a str>) -> Vec<u16> {
     words.flat_map(of_word).collect()
 }
 
-/// That reading the text answers what the word says.
-fn reads(name: &str, text: &[u8], out: Lengths, outcome: &str) {
+/// That reading the text at a size answers what the word says.
+fn reads(size: Size, name: &str, text: &[u8], out: Lengths, outcome: &str) {
     let mut table = OwnTable::empty(out);
-    let got = mespindro::read(text, table.lent_mut());
+    let got = (Library::at(size).read)(text, table.lent_mut());
     match outcome.strip_prefix("read:") {
         Some(nodes) => {
             let (nodes, numbers) = nodes.split_once('=').unwrap_or((nodes, ""));
@@ -400,13 +390,15 @@ fn texts() {
             // a column as long as the table asks for; one that is long enough for anything; the two the other way round
             for out in [
                 Lengths::new(out, out / 2),
-                Lengths::new(out, NODES),
-                Lengths::new(2 * NODES + 1, out / 2),
+                Lengths::new(out, Size::LARGE.nodes),
+                Lengths::new(2 * Size::LARGE.nodes + 1, out / 2),
             ] {
-                reads(name, &text, out, outcome);
-                let text = text.clone();
-                let call = Call::Read { text, out };
-                Tally::default().compare(&call).expect(name);
+                for size in Size::BOTH {
+                    reads(size, name, &text, out, at_size(outcome, size));
+                    let text = text.clone();
+                    let call = Call::Read { text, out };
+                    Tally::default().compare(size, &call).expect(name);
+                }
             }
         });
         number += 1;
@@ -422,7 +414,12 @@ fn tables() {
         let name = words.next().expect("a name");
         let count = words.next().expect("a count").parse().expect("a count");
         let outcome = words.next().expect("an outcome");
-        on_big_stack(|| every_call_answers(name, &numbers(words), count, outcome));
+        let numbers = numbers(words);
+        on_big_stack(|| {
+            for size in Size::BOTH {
+                every_call_answers(size, name, &numbers, count, at_size(outcome, size));
+            }
+        });
         number += 1;
     }
     println!("tables.txt: {number} cases");
@@ -438,16 +435,20 @@ fn writes() {
         let count = words.next().expect("a count").parse().expect("a count");
         let outcome = words.next().expect("an outcome");
         let table = OwnTable::of_numbers(&numbers(words), count);
-        let mut bytes = vec![7; out];
-        let got = mespindro::write(table.lent(), count, &mut bytes);
-        let got = got.map(|length| String::from_utf8_lossy(&bytes[..length]));
-        let expected = match outcome.starts_with('(') {
-            true => Ok(outcome.into()),
-            false => Err(refusal(outcome)),
-        };
-        assert_eq!(got, expected, "{name}");
-        let call = Call::Write { table, count, out };
-        Tally::default().compare(&call).expect(name);
+        for size in Size::BOTH {
+            let mut bytes = vec![7; out];
+            let got = (Library::at(size).write)(table.lent(), count, &mut bytes);
+            let got = got.map(|length| String::from_utf8_lossy(&bytes[..length]));
+            let outcome = at_size(outcome, size);
+            let expected = match outcome.starts_with('(') {
+                true => Ok(outcome.into()),
+                false => Err(refusal(outcome)),
+            };
+            assert_eq!(got, expected, "{name}");
+            let table = table.clone();
+            let call = Call::Write { table, count, out };
+            Tally::default().compare(size, &call).expect(name);
+        }
         number += 1;
     }
     println!("writes.txt: {number} cases");
@@ -464,11 +465,12 @@ fn threads() {
         let parts: Vec<Vec<u16>> = parts.filter(|p| *p != "-").map(listed).collect();
         let table = OwnTable::of_numbers(&numbers(words), count);
         for (k, part) in parts.iter().enumerate() {
-            assert_eq!(mespindro::thread(table.lent(), count, k), part, "{name}");
+            let told = at_both(|library| (library.thread)(table.lent(), count, k));
+            assert_eq!(told, part, "{name}");
         }
         for k in [parts.len(), usize::MAX] {
-            let part = mespindro::thread(table.lent(), count, k);
-            assert!(part.is_empty(), "{name}");
+            let told = at_both(|library| (library.thread)(table.lent(), count, k));
+            assert!(told.is_empty(), "{name}");
         }
         number += 1;
     }
@@ -476,17 +478,17 @@ fn threads() {
 }
 
 /// Every call on the table refuses with the number, or none refuses it where the outcome is `-`.
-fn every_call_answers(name: &str, numbers: &[u16], count: usize, outcome: &str) {
+fn every_call_answers(size: Size, name: &str, numbers: &[u16], count: usize, outcome: &str) {
     let own = OwnTable::of_numbers(numbers, count);
     let (mut run_table, mut other) = (own.clone(), OwnTable::empty(Lengths::FULL));
-    let table = own.lent();
+    let (library, table) = (Library::at(size), own.lent());
     let answers = [
-        mespindro::write(table, count, &mut [7; TEXT]).err(),
-        mespindro::step(table, count, other.lent_mut()).err(),
-        mespindro::run(run_table.lent_mut(), count, other.lent_mut(), 9).err(),
-        mespindro::standing(table, count, 0).err(),
+        (library.write)(table, count, &mut vec![7; size.text()]).err(),
+        (library.step)(table, count, other.lent_mut()).err(),
+        (library.run)(run_table.lent_mut(), count, other.lent_mut(), 9).err(),
+        (library.standing)(table, count, 0).err(),
     ];
-    let part = mespindro::thread(table, count, 0);
+    let part = (library.thread)(table, count, 0);
     assert!(outcome == "-" || part.is_empty(), "{name}: a part");
     for answer in answers {
         let number = answer.map_or(0, Refusal::number);
@@ -497,14 +499,12 @@ fn every_call_answers(name: &str, numbers: &[u16], count: usize, outcome: &str) 
     }
 }
 
-/// What the program on standard input does with the calls; its own bytes are tested where it is built.
+/// What the program on standard input does with the small calls; its own bytes are tested where it is built.
 fn report(input: &[u8]) -> Vec<u8> {
-    let (mut table, mut work) = (
-        OwnTable::empty(Lengths::FULL),
-        OwnTable::empty(Lengths::FULL),
-    );
-    let run = mespindro::read(input, table.lent_mut())
-        .and_then(|count| mespindro::run(table.lent_mut(), count, work.lent_mut(), 10_000));
+    let lengths = Lengths::for_nodes(small::NODES);
+    let (mut table, mut work) = (OwnTable::empty(lengths), OwnTable::empty(lengths));
+    let run = small::read(input, table.lent_mut())
+        .and_then(|count| small::run(table.lent_mut(), count, work.lent_mut(), 10_000));
     let stop = match run {
         Ok(stop) => stop,
         Err(refusal) => {
@@ -518,8 +518,8 @@ fn report(input: &[u8]) -> Vec<u8> {
         Reason::Room => "4:room",
     };
     let steps = stop.steps.to_string();
-    let mut text = vec![0; TEXT];
-    let length = mespindro::write(table.lent(), stop.nodes, &mut text).expect("an end is written");
+    let mut text = vec![0; small::TEXT];
+    let length = small::write(table.lent(), stop.nodes, &mut text).expect("an end is written");
     let head = format!("({reason}{}:{steps}", steps.len());
     [head.as_bytes(), &text[..length], b")"].concat()
 }
@@ -535,6 +535,7 @@ fn program_on_standard_input() {
         ("", "(7:refused1:3)"),
         (&bytes, "(7:refused1:2)"),
         ("((1:v1:0))", "(7:refused1:6)"),
+        ("((1:x4:2048))", "(7:refused1:5)"),
         (
             "((1:n(1:g(1:u(1:v1:0)(1:c1:1))(1:v1:0))))",
             "(5:ended1:3((1:c1:1)))",

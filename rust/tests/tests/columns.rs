@@ -7,8 +7,9 @@ use mespindro::{Move, Reason, Refusal, Rule, Standing, Stop, Table};
 use mespindro_tests::evaluator::table::{read_table, OwnTable};
 use mespindro_tests::evaluator::text::{read_text, write_text};
 use mespindro_tests::evaluator::tree::{Program, Term};
-use mespindro_tests::evaluator::{run_program, Lengths, NODES, TEXT};
+use mespindro_tests::evaluator::{run_program, Lengths, Size};
 use mespindro_tests::lending::BEFORE;
+use mespindro_tests::library::{at_both, Library};
 use mespindro_tests::on_big_stack;
 use mespindro_tests::short;
 use std::path::PathBuf;
@@ -35,28 +36,40 @@ fn count(table: &OwnTable) -> usize {
 
 /// Reads into memory of these lengths.
 fn read(text: &str, numbers: usize, column: usize) -> (Result<usize, Refusal>, OwnTable) {
-    let mut out = OwnTable::empty(Lengths::new(numbers, column));
-    let got = mespindro::read(text.as_bytes(), out.lent_mut());
-    (got, out)
+    at_both(|library| {
+        let mut out = OwnTable::empty(Lengths::new(numbers, column));
+        let got = (library.read)(text.as_bytes(), out.lent_mut());
+        (got, out)
+    })
 }
 
 /// Steps into memory of these lengths.
 fn step(table: &OwnTable, out: Lengths) -> (Result<Move, Refusal>, OwnTable) {
-    let mut out = OwnTable::empty(out);
-    let got = mespindro::step(table.lent(), count(table), out.lent_mut());
-    (got, out)
+    at_both(|library| {
+        let mut out = OwnTable::empty(out);
+        let got = (library.step)(table.lent(), count(table), out.lent_mut());
+        (got, out)
+    })
 }
 
 /// How the first thread stands.
 fn standing(table: &OwnTable) -> Result<Standing, Refusal> {
-    mespindro::standing(table.lent(), count(table), 0)
+    at_both(|library| (library.standing)(table.lent(), count(table), 0))
+}
+
+/// The nodes of a thread.
+fn thread(table: &OwnTable, k: usize) -> Vec<u16> {
+    at_both(|library| (library.thread)(table.lent(), count(table), k).to_vec())
 }
 
 /// A program's column, as a read gives it.
 fn column_read(short: &str) -> Vec<u16> {
     let text = write_text(&program(short));
-    let mut out = OwnTable::empty(Lengths::FULL);
-    let nodes = mespindro::read(&text, out.lent_mut()).expect("a program");
+    let (nodes, out) = at_both(|library| {
+        let mut out = OwnTable::empty(Lengths::FULL);
+        let nodes = (library.read)(&text, out.lent_mut()).expect("a program");
+        (nodes, out)
+    });
     let (front, rest) = out.column.split_at(nodes);
     assert!(rest.iter().all(|entry| *entry == BEFORE));
     front.to_vec()
@@ -159,10 +172,10 @@ fn standings() {
     for (short, column, refusal) in cases {
         let table = with_column(short, column);
         assert_eq!(standing(&table), Err(refusal), "{short} {column:?}");
-        assert!(mespindro::thread(table.lent(), count(&table), 0).is_empty());
+        assert!(thread(&table, 0).is_empty());
     }
     let no_program = Table::new(&[1, 0], &[1]);
-    let told = mespindro::standing(no_program, 1, 0);
+    let told = at_both(|library| (library.standing)(no_program, 1, 0));
     assert_eq!(told, Err(Refusal::NoProgram));
 }
 
@@ -182,9 +195,12 @@ fn the_column_before_coherence() {
 
 /// Runs GROWN in tables of 37 nodes with columns of these lengths, and answers its column too. The work table and its column are then zeros.
 fn run_grown(column: usize, work_column: usize) -> (Result<Stop, Refusal>, Vec<u16>) {
-    let mut table = OwnTable::within(&program(GROWN), Lengths::new(74, column));
-    let mut work = OwnTable::empty(Lengths::new(74, work_column));
-    let got = mespindro::run(table.lent_mut(), 17, work.lent_mut(), 10_000);
+    let (got, table, work) = at_both(|library| {
+        let mut table = OwnTable::within(&program(GROWN), Lengths::new(74, column));
+        let mut work = OwnTable::empty(Lengths::new(74, work_column));
+        let got = (library.run)(table.lent_mut(), 17, work.lent_mut(), 10_000);
+        (got, table, work)
+    });
     if got.is_ok() {
         let zeros = [&work.numbers[..], &work.column].concat();
         assert!(zeros.iter().all(|number| *number == 0));
@@ -221,9 +237,12 @@ fn runs() {
 #[test]
 fn a_run_of_an_abstraction() {
     let before = program("((a (l (b0 c2)) c1))");
-    let mut table = OwnTable::within(&before, Lengths::new(30, 12));
-    let mut work = OwnTable::empty(Lengths::new(31, 13));
-    let stop = mespindro::run(table.lent_mut(), 10, work.lent_mut(), 10).expect("a run");
+    let (stop, table, work) = at_both(|library| {
+        let mut table = OwnTable::within(&before, Lengths::new(30, 12));
+        let mut work = OwnTable::empty(Lengths::new(31, 13));
+        let stop = (library.run)(table.lent_mut(), 10, work.lent_mut(), 10).expect("a run");
+        (stop, table, work)
+    });
     assert_eq!((stop.reason, stop.nodes, stop.steps), (Reason::Ended, 5, 2));
     assert_eq!(table.column, and_zeros(&[5, 1, 3, 1, 1], 12));
     assert_eq!((work.numbers, work.column), (vec![0; 31], vec![0; 13]));
@@ -241,8 +260,9 @@ fn an_entry_before_the_thread_changes() {
 /// Not true: the lowest number that applies is given. 14 goes before all but 1, in every call.
 #[test]
 fn a_wrong_column_goes_first() {
-    // what else is wrong, beside the right column: loose, incoherent, finished, no thread, a result of over 2,048 nodes
-    let large = format!("((a (L 0 (b0 b0 b0 b0)) (a c1{})))", " c1".repeat(300));
+    // what else is wrong, beside the right column: loose, incoherent, finished, no thread, a result of over 16,384 nodes
+    let nine = "b0 ".repeat(9);
+    let large = format!("((a (L 0 ({nine})) (a c1{})))", " c1".repeat(1000));
     for short in ["(b0)", "((n (L 0 (b1))))", "(c1)", "()", &large] {
         let right = OwnTable::of(&program(short));
         let mut wrong = right.clone();
@@ -260,13 +280,15 @@ fn a_wrong_column_goes_first() {
 /// What write, step, run and standing refuse where nothing is lent for a result.
 fn refusals(table: &OwnTable) -> [Option<Refusal>; 4] {
     let nodes = count(table);
-    let (mut run_table, mut none) = (table.clone(), OwnTable::empty(Lengths::NONE));
-    [
-        mespindro::write(table.lent(), nodes, &mut []).err(),
-        mespindro::step(table.lent(), nodes, none.lent_mut()).err(),
-        mespindro::run(run_table.lent_mut(), nodes, none.lent_mut(), 9).err(),
-        mespindro::standing(table.lent(), nodes, usize::MAX).err(),
-    ]
+    at_both(|library| {
+        let (mut run_table, mut none) = (table.clone(), OwnTable::empty(Lengths::NONE));
+        [
+            (library.write)(table.lent(), nodes, &mut []).err(),
+            (library.step)(table.lent(), nodes, none.lent_mut()).err(),
+            (library.run)(run_table.lent_mut(), nodes, none.lent_mut(), 9).err(),
+            (library.standing)(table.lent(), nodes, usize::MAX).err(),
+        ]
+    })
 }
 
 /// Not true: a column that is right at every term's node is right. The other nodes are asked too: alternatives, and ends of lists.
@@ -274,14 +296,13 @@ fn refusals(table: &OwnTable) -> [Option<Refusal>; 4] {
 fn alternatives_have_entries() {
     let right = with_column("((L 0 (c1)) x0)", &[8, 4, 3, 1, 1, 3, 1, 1]);
     assert_eq!(standing(&right), Ok(Standing::Partial));
-    assert_eq!(mespindro::thread(right.lent(), 8, 1), [3, 0]);
+    assert_eq!(thread(&right, 1), [3, 0]);
     for place in [0, 2, 5, 4, 7] {
         for off in [1, u16::MAX] {
             let mut wrong = right.clone();
             wrong.column[place] = wrong.column[place].wrapping_add(off);
             assert_eq!(standing(&wrong), Err(Refusal::WrongColumn), "{place}");
-            let part = mespindro::thread(wrong.lent(), 8, 1);
-            assert!(part.is_empty(), "{place}");
+            assert!(thread(&wrong, 1).is_empty(), "{place}");
         }
     }
 }
@@ -344,15 +365,18 @@ fn room_by_each_length() {
     on_big_stack(|| {
         for (name, program) in rule_sets() {
             let least = OwnTable::of(&program).nodes();
-            for room in [least, least + 1, least + 7, 400, 1000, NODES] {
+            for room in [least, least + 1, least + 7, 400, 1000, Size::SMALL.nodes] {
                 if room < least {
                     continue;
                 }
                 let expected = run_program(program.clone(), room, 10_000).expect("a run");
                 for (lengths, work_lengths) in rooms(room) {
-                    let mut table = OwnTable::within(&program, lengths);
-                    let mut work = OwnTable::empty(work_lengths);
-                    let got = mespindro::run(table.lent_mut(), least, work.lent_mut(), 10_000);
+                    let (got, table, work) = at_both(|library| {
+                        let mut table = OwnTable::within(&program, lengths);
+                        let mut work = OwnTable::empty(work_lengths);
+                        let got = (library.run)(table.lent_mut(), least, work.lent_mut(), 10_000);
+                        (got, table, work)
+                    });
                     assert_eq!(got, Ok(expected.stop()), "{name} in {room}");
                     let mut end = OwnTable::of(&expected.end);
                     end.numbers.resize(lengths.numbers, 0);
@@ -377,22 +401,24 @@ fn refused_calls_change_nothing() {
     let mut refused = 0;
     for (table, lengths) in tables_to_refuse() {
         let nodes = count(&table);
-        let (mut kept, before) = (table.clone(), OwnTable::empty(lengths));
-        let mut other = before.clone();
-        let mut text = vec![BEFORE as u8; lengths.column];
-        let answers = [
-            mespindro::write(kept.lent(), nodes, &mut text).err(),
-            mespindro::step(kept.lent(), nodes, other.lent_mut()).err(),
-            mespindro::run(kept.lent_mut(), nodes, other.lent_mut(), 9).err(),
-        ];
-        // a call that is accepted is not asked here: the next one would find what it has left
-        assert!(
-            answers.iter().all(Option::is_some),
-            "{table:?}: {answers:?}"
-        );
-        assert_eq!((kept, other), (table, before));
-        assert!(text.iter().all(|byte| *byte == BEFORE as u8));
-        refused += answers.len();
+        for library in Size::BOTH.map(Library::at) {
+            let (mut kept, before) = (table.clone(), OwnTable::empty(lengths));
+            let mut other = before.clone();
+            let mut text = vec![BEFORE as u8; lengths.column];
+            let answers = [
+                (library.write)(kept.lent(), nodes, &mut text).err(),
+                (library.step)(kept.lent(), nodes, other.lent_mut()).err(),
+                (library.run)(kept.lent_mut(), nodes, other.lent_mut(), 9).err(),
+            ];
+            // a call that is accepted is not asked here: the next one would find what it has left
+            assert!(
+                answers.iter().all(Option::is_some),
+                "{table:?}: {answers:?}"
+            );
+            assert_eq!((&kept, other), (&table, before));
+            assert!(text.iter().all(|byte| *byte == BEFORE as u8));
+            refused += answers.len();
+        }
     }
     for text in ["()", "((1:c1:1))", "((1:v1:0))", "(", "((1:z1:1))"] {
         for (numbers, column) in [(0, 0), (1, 9), (9, 0)] {
@@ -442,7 +468,7 @@ fn rule_sets() -> Vec<(String, Program)> {
         .filter(|file| file.extension().is_some_and(|end| end == "csexp"))
         .map(|file| {
             let text = std::fs::read(&file).expect("a rule set");
-            let program = read_text(&text).expect("a rule set");
+            let program = read_text(Size::SMALL, &text).expect("a rule set");
             (file.display().to_string(), program)
         })
         .collect();
@@ -456,7 +482,10 @@ fn rule_sets() -> Vec<(String, Program)> {
 fn what_is_left_is_taken_again() {
     let steps: usize = on_big_stack(|| {
         let sets = rule_sets();
-        let steps = sets.iter().map(|(name, program)| follow(name, program));
+        let steps = sets.iter().map(|(name, program)| {
+            // in the same tables either size makes the same steps
+            at_both(|library| follow(library, name, program))
+        });
         steps.sum()
     });
     assert!(steps > 2000, "only {steps} steps");
@@ -464,18 +493,19 @@ fn what_is_left_is_taken_again() {
 }
 
 /// Steps one by one, and beside that runs by one step at a time; answers how many there were.
-fn follow(name: &str, program: &Program) -> usize {
-    let mut now = OwnTable::empty(Lengths::FULL);
-    let mut nodes = mespindro::read(&write_text(program), now.lent_mut()).expect("a rule set");
-    let (mut run, mut work) = (now.clone(), OwnTable::empty(Lengths::FULL));
-    let mut next = OwnTable::empty(Lengths::FULL);
+fn follow(library: &Library, name: &str, program: &Program) -> usize {
+    let lengths = Lengths::for_nodes(Size::SMALL.nodes);
+    let mut now = OwnTable::empty(lengths);
+    let mut nodes = (library.read)(&write_text(program), now.lent_mut()).expect("a rule set");
+    let (mut run, mut work) = (now.clone(), OwnTable::empty(lengths));
+    let mut next = OwnTable::empty(lengths);
     for steps in 0.. {
-        taken_by_every_call(name, &now, nodes);
-        let made = mespindro::step(now.lent(), nodes, next.lent_mut());
+        taken_by_every_call(library, name, &now, nodes);
+        let made = (library.step)(now.lent(), nodes, next.lent_mut());
         let Ok(made) = made else {
             return steps;
         };
-        let stop = mespindro::run(run.lent_mut(), nodes, work.lent_mut(), 1).expect("a run");
+        let stop = (library.run)(run.lent_mut(), nodes, work.lent_mut(), 1).expect("a run");
         assert_eq!(stop.nodes, made.nodes, "{name}");
         assert_eq!(front(&run, stop.nodes), front(&next, made.nodes), "{name}");
         nodes = made.nodes;
@@ -489,24 +519,24 @@ fn front(table: &OwnTable, nodes: usize) -> (&[u16], &[u16]) {
     (&table.numbers[..2 * nodes], &table.column[..nodes])
 }
 
-fn taken_by_every_call(name: &str, left: &OwnTable, nodes: usize) {
+fn taken_by_every_call(library: &Library, name: &str, left: &OwnTable, nodes: usize) {
     // the evaluator's own count of the column
-    let program = read_table(left.lent(), nodes).expect(name);
-    let mut text = vec![0; TEXT];
-    let length = mespindro::write(left.lent(), nodes, &mut text).expect(name);
+    let program = read_table(Size::SMALL, left.lent(), nodes).expect(name);
+    let mut text = vec![0; Size::SMALL.text()];
+    let length = (library.write)(left.lent(), nodes, &mut text).expect(name);
     assert_eq!(text[..length], write_text(&program), "{name}");
     let mut again = OwnTable::empty(Lengths::for_nodes(nodes));
-    let read = mespindro::read(&text[..length], again.lent_mut());
+    let read = (library.read)(&text[..length], again.lent_mut());
     assert_eq!(read, Ok(nodes), "{name}");
     assert_eq!(front(&again, nodes), front(left, nodes), "{name}");
-    let past = mespindro::standing(left.lent(), nodes, program.len());
+    let past = (library.standing)(left.lent(), nodes, program.len());
     assert_eq!(past, Err(Refusal::NoThread), "{name}");
     if !program.is_empty() {
-        let part = mespindro::thread(left.lent(), nodes, 0);
+        let part = (library.thread)(left.lent(), nodes, 0);
         assert_eq!(usize::from(left.column[1]), part.len() / 2, "{name}");
     }
     let mut work = again.clone();
-    let stop = mespindro::run(again.lent_mut(), nodes, work.lent_mut(), 0).expect(name);
+    let stop = (library.run)(again.lent_mut(), nodes, work.lent_mut(), 0).expect(name);
     assert_eq!((stop.nodes, stop.steps), (nodes, 0), "{name}");
     assert_eq!(front(&again, nodes), front(left, nodes), "{name}");
 }
@@ -520,14 +550,22 @@ fn prints(mut program: std::process::Command) {
     assert_eq!(printed, include_str!("../c/columns.txt"));
 }
 
+/// The source, for the plain calls and for the small ones.
+const SOURCE: &str = "rust/tests/c/columns.c";
+const SIZES: [&[&str]; 2] = [&["-std=c11"], &["-std=c11", "-DSMALL"]];
+
 #[test]
 fn in_c() {
-    prints(in_c::for_this_machine("rust/tests/c/columns.c", "c11")());
+    for flags in SIZES {
+        prints(in_c::for_this_machine(SOURCE, flags)());
+    }
 }
 
 #[test]
 fn in_c_for_the_switch() {
-    if let Some(program) = in_c::for_the_switch("rust/tests/c/columns.c") {
-        prints(program());
+    for flags in SIZES {
+        if let Some(program) = in_c::for_the_switch(SOURCE, flags) {
+            prints(program());
+        }
     }
 }

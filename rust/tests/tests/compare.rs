@@ -1,4 +1,4 @@
-//! The library against the evaluator, call by call, on random inputs of fixed seeds.
+//! The library against the evaluator, call by call, on random inputs of fixed seeds, at both sizes.
 
 use mespindro::{Reason, Refusal, Rule, Table};
 use mespindro_tests::calls::{on_damaged_column, on_program, on_text, random_calls};
@@ -7,71 +7,82 @@ use mespindro_tests::damage::Damage;
 use mespindro_tests::evaluator::step::{step, Step};
 use mespindro_tests::evaluator::table::{write_table, OwnTable};
 use mespindro_tests::evaluator::tree::{application, fresh, program_size, Program, Term};
-use mespindro_tests::evaluator::{self, Lengths, NODES};
+use mespindro_tests::evaluator::{self, Lengths, Size};
 use mespindro_tests::random::Random;
 use mespindro_tests::{generate, on_big_stack, short};
 use std::collections::BTreeMap;
 
-/// Compares the calls on `inputs` random inputs and prints how many there were.
+/// Compares the calls on random inputs, so many at each size, and prints how many there were.
 fn compare_many(
     name: &str,
     seed: u64,
-    inputs: usize,
-    make: impl Fn(&mut Random) -> Vec<Call> + Sync,
+    inputs: [usize; 2],
+    make: impl Fn(Size, &mut Random) -> Vec<Call> + Sync,
 ) -> Tally {
     let tally = on_big_stack(|| {
         let mut random = Random::new(seed);
         let mut tally = Tally::default();
-        for input in 0..inputs {
-            for call in make(&mut random) {
-                if let Err(difference) = tally.compare(&call) {
-                    panic!("{name}, seed {seed}, input {input}: {difference}\n{call:?}");
+        for (size, inputs) in Size::BOTH.into_iter().zip(inputs) {
+            for input in 0..inputs {
+                for call in make(size, &mut random) {
+                    if let Err(difference) = tally.compare(size, &call) {
+                        panic!(
+                            "{name}, {size:?}, seed {seed}, input {input}: {difference}\n{call:?}"
+                        );
+                    }
                 }
             }
         }
         tally
     });
-    println!("{name}: {inputs} inputs, {tally}");
+    println!("{name}: {inputs:?} inputs, {tally}");
     tally
+}
+
+/// Compares one call at each size.
+fn compare_at_both(tally: &mut Tally, call: &Call) {
+    for size in Size::BOTH {
+        tally.compare(size, call).unwrap();
+    }
 }
 
 #[test]
 fn texts() {
-    compare_many("texts", 1, 20_000, |random| {
-        on_text(&generate::text(random))
+    compare_many("texts", 1, [20_000, 4_000], |size, random| {
+        on_text(size, &generate::text(size, random))
     });
 }
 
 #[test]
 fn sound_programs() {
-    compare_many("sound programs", 2, 3_500, |random| {
-        on_program(&generate::sound_program(random), random)
+    compare_many("sound programs", 2, [3_500, 700], |size, random| {
+        on_program(size, &generate::sound_program(size, random), random)
     });
 }
 
 #[test]
 fn faulty_programs() {
-    compare_many("faulty programs", 3, 2_500, |random| {
-        on_program(&generate::faulty_program(random), random)
+    compare_many("faulty programs", 3, [2_500, 500], |size, random| {
+        on_program(size, &generate::faulty_program(size, random), random)
     });
 }
 
 #[test]
 fn all_kinds_of_inputs() {
-    compare_many("all kinds", 4, 6_000, random_calls);
+    compare_many("all kinds", 4, [6_000, 1_000], random_calls);
 }
 
 #[test]
 fn worked_programs() {
-    compare_many("worked programs", 5, 1_000, |random| {
-        on_program(&generate::worked_program(random), random)
+    compare_many("worked programs", 5, [1_000, 300], |size, random| {
+        on_program(size, &generate::worked_program(size, random), random)
     });
 }
 
 #[test]
 fn large_programs() {
-    compare_many("large programs", 6, 20, |random| {
-        on_program(&generate::large_program(random), random)
+    compare_many("large programs", 6, [30, 30], |size, random| {
+        on_program(size, &generate::large_program(size, random), random)
     });
 }
 
@@ -80,13 +91,13 @@ fn large_programs() {
 fn damaged_columns() {
     for (seed, damage) in (100..).zip(Damage::ALL) {
         let name = format!("{damage:?} columns");
-        let tally = compare_many(&name, seed, 1_000, |random| {
+        let tally = compare_many(&name, seed, [1_000, 100], |size, random| {
             let program = match random.below(3) {
-                0 => generate::faulty_program(random),
-                1 => generate::worked_program(random),
-                _ => generate::sound_program(random),
+                0 => generate::faulty_program(size, random),
+                1 => generate::worked_program(size, random),
+                _ => generate::sound_program(size, random),
             };
-            on_damaged_column(&OwnTable::of(&program), damage, random)
+            on_damaged_column(size, &OwnTable::of(&program), damage, random)
         });
         // too many nodes are no program
         let (none, wrong) = (tally.refused[1], tally.refused[14]);
@@ -101,7 +112,7 @@ fn every_entry() {
         let mut random = Random::new(9);
         let mut tally = Tally::default();
         for _ in 0..300 {
-            let program = generate::worked_program(&mut random);
+            let program = generate::worked_program(Size::SMALL, &mut random);
             let right = OwnTable::of(&program);
             let count = right.column.len();
             for place in (0..count).filter(|_| count < 150) {
@@ -109,8 +120,7 @@ fn every_entry() {
                 for wrong in [0, 1, entry - 1, entry + 1, left, left + 1, 65535] {
                     let mut table = right.clone();
                     table.column[place] = wrong;
-                    let call = Call::Standing { table, count, k: 0 };
-                    tally.compare(&call).unwrap();
+                    compare_at_both(&mut tally, &Call::Standing { table, count, k: 0 });
                 }
             }
         }
@@ -131,14 +141,13 @@ fn every_small_column() {
                     numbers: right.numbers.clone(),
                     column,
                 };
-                let call = Call::Standing { table, count, k: 0 };
-                tally.compare(&call).unwrap();
+                compare_at_both(&mut tally, &Call::Standing { table, count, k: 0 });
             }
         }
     }
     println!("every small column: {tally}");
-    // one right column a shape: (), (c1), two of four nodes and four of five; () has no thread
-    assert_eq!((tally.accepted, tally.refused[10]), (7, 1));
+    // at each size, one right column a shape: (), (c1), two of four nodes and four of five; () has no thread
+    assert_eq!((tally.accepted, tally.refused[10]), (14, 2));
 }
 
 /// All columns of a length with numbers up to a last.
@@ -205,7 +214,7 @@ fn room_by_each_length() {
                 work,
                 most: 60,
             };
-            tally.compare(&call).unwrap();
+            compare_at_both(&mut tally, &call);
         }
     }
     println!("room by each length: {tally}");
@@ -218,8 +227,8 @@ fn random_runs_stop_by_each_length() {
     let mut times = [0; 4];
     on_big_stack(|| {
         for _ in 0..1_000 {
-            let program = generate::sound_program(&mut random);
-            for call in on_program(&program, &mut random) {
+            let program = generate::sound_program(Size::SMALL, &mut random);
+            for call in on_program(Size::SMALL, &program, &mut random) {
                 if let Some(which) = bounding_length(&call) {
                     times[which] += 1;
                 }
@@ -241,7 +250,7 @@ fn bounding_length(call: &Call) -> Option<usize> {
     else {
         return None;
     };
-    let (stop, _) = evaluator::run(table.lent(), *count, *work, *most)?.ok()?;
+    let (stop, _) = evaluator::run(Size::SMALL, table.lent(), *count, *work, *most)?.ok()?;
     let nodes = [
         table.numbers.len() / 2,
         table.column.len(),
@@ -249,7 +258,7 @@ fn bounding_length(call: &Call) -> Option<usize> {
         work.column,
     ];
     let least = *nodes.iter().min()?;
-    let bounded = stop.reason == Reason::Room && least < NODES;
+    let bounded = stop.reason == Reason::Room && least < Size::SMALL.nodes;
     nodes.iter().position(|n| *n == least).filter(|_| bounded)
 }
 
@@ -272,12 +281,11 @@ fn columns_of_the_document() {
         let table = OwnTable::of(&short::program(program));
         assert_eq!(table.column, column, "{program}");
         // the library takes no other
-        let told = compare::standing(table.lent(), column.len(), usize::MAX);
-        assert_eq!(
-            told,
-            Ok(Some(Outcome::Refused(Refusal::NoThread))),
-            "{program}"
-        );
+        for size in Size::BOTH {
+            let told = compare::standing(size, table.lent(), column.len(), usize::MAX);
+            let none = Outcome::Refused(Refusal::NoThread);
+            assert_eq!(told, Ok(Some(none)), "{program}");
+        }
     }
 }
 
@@ -290,14 +298,16 @@ fn step_in(
     let mut table = OwnTable::of(&short::program(program));
     let count = table.column.len();
     table.column = column.to_vec();
-    compare::step(table.lent(), count, out).unwrap();
-    let told = evaluator::step(table.lent(), count, out).unwrap();
+    for size in Size::BOTH {
+        compare::step(size, table.lent(), count, out).unwrap();
+    }
+    let told = evaluator::step(Size::SMALL, table.lent(), count, out).unwrap();
     told.map(|(made, result)| (made.rule, made.thread, result.column))
 }
 
 #[test]
 fn steps_of_the_document() {
-    let any = Lengths::for_nodes(NODES);
+    let any = Lengths::for_nodes(Size::SMALL.nodes);
     let first = "((n (g (u b0 c1) b0)))";
     assert_eq!(
         step_in(first, &[8, 6, 5, 3, 1, 1, 1, 1], any),
@@ -345,15 +355,20 @@ fn standings_of_the_document() {
         assert_eq!(told, Refusal::WrongColumn, "entry {place}");
     }
     // where no program stands there is no subtree, and any column will do
-    let told = compare::standing(Table::new(&[1, 0], &[1]), 1, 0);
-    assert_eq!(told, Ok(Some(Outcome::Refused(Refusal::NoProgram))));
+    for size in Size::BOTH {
+        let told = compare::standing(size, Table::new(&[1, 0], &[1]), 1, 0);
+        assert_eq!(told, Ok(Some(Outcome::Refused(Refusal::NoProgram))));
+    }
 }
 
 /// How both refuse the standing of a program's first thread.
 fn first_standing(program: &Program, column: &[u16]) -> Refusal {
     let numbers = write_table(program);
-    let told = compare::standing(Table::new(&numbers, column), numbers.len() / 2, 0);
-    match told.unwrap() {
+    let table = Table::new(&numbers, column);
+    let [small, large] =
+        Size::BOTH.map(|size| compare::standing(size, table, numbers.len() / 2, 0));
+    assert_eq!(small, large);
+    match small.unwrap() {
         Some(Outcome::Refused(refusal)) => refusal,
         other => panic!("{other:?}"),
     }
@@ -378,8 +393,10 @@ fn reads_of_the_document() {
         ),
     ];
     for (text, out, outcome) in cases {
-        let told = compare::read(text, out);
-        assert_eq!(told, Ok(Some(outcome)), "{}", text.escape_ascii());
+        for size in Size::BOTH {
+            let told = compare::read(size, text, out);
+            assert_eq!(told, Ok(Some(outcome)), "{}", text.escape_ascii());
+        }
     }
 }
 
@@ -392,8 +409,10 @@ fn grown(column: usize, work: usize) -> Result<(Reason, usize, u32), Refusal> {
         numbers: 74,
         column: work,
     };
-    compare::run(table.lent(), 17, work, 1000).unwrap();
-    let told = evaluator::run(table.lent(), 17, work, 1000).unwrap();
+    for size in Size::BOTH {
+        compare::run(size, table.lent(), 17, work, 1000).unwrap();
+    }
+    let told = evaluator::run(Size::SMALL, table.lent(), 17, work, 1000).unwrap();
     told.map(|(stop, _)| (stop.reason, stop.nodes, stop.steps))
 }
 
@@ -408,8 +427,10 @@ fn runs_of_the_document() {
     assert_eq!(grown(26, 19), Ok((Reason::Ended, 5, 5)));
     let table = OwnTable::of(&short::program("((a (l (b0 c2)) c1))"));
     let work = Lengths::for_nodes(10);
-    compare::run(table.lent(), 10, work, 1000).unwrap();
-    let (stop, end) = evaluator::run(table.lent(), 10, work, 1000)
+    for size in Size::BOTH {
+        compare::run(size, table.lent(), 10, work, 1000).unwrap();
+    }
+    let (stop, end) = evaluator::run(Size::SMALL, table.lent(), 10, work, 1000)
         .unwrap()
         .unwrap();
     assert_eq!((stop.reason, stop.steps), (Reason::Ended, 2));
@@ -424,13 +445,13 @@ fn random_programs_take_every_rule() {
     let mut reasons = [0; 3];
     on_big_stack(|| {
         for _ in 0..5_000 {
-            let mut program = generate::sound_program(&mut random);
+            let mut program = generate::sound_program(Size::SMALL, &mut random);
             for _ in 0..60 {
                 let Step::To(rule, _, next) = step(&program) else {
                     break;
                 };
                 *rules.entry(rule).or_default() += 1;
-                if program_size(&next) > 2048 {
+                if program_size(&next) > Size::SMALL.nodes {
                     reasons[2] += 1;
                     break;
                 }

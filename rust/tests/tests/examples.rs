@@ -92,13 +92,13 @@ fn place_in_rust() {
 
 #[test]
 fn place_in_c() {
-    let place = in_c::for_this_machine("examples/place.c", "c99");
+    let place = in_c::for_this_machine("examples/place.c", &["-std=c99"]);
     check(|file| place().arg(file).output().unwrap());
 }
 
 #[test]
 fn place_for_the_switch() {
-    if let Some(place) = in_c::for_the_switch("examples/place.c") {
+    if let Some(place) = in_c::for_the_switch("examples/place.c", &[]) {
         check(|file| place().arg(file).output().unwrap());
     }
 }
@@ -117,7 +117,7 @@ fn of_the_header() -> PathBuf {
 #[test]
 fn the_header_in_c() {
     let source = of_the_header();
-    let program = in_c::for_this_machine(source.to_str().expect("a path"), "c99");
+    let program = in_c::for_this_machine(source.to_str().expect("a path"), &["-std=c99"]);
     let output = program().output().unwrap();
     assert!(output.status.success());
     assert_eq!(String::from_utf8_lossy(&output.stdout), "4 2\n");

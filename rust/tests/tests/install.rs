@@ -187,12 +187,14 @@ fn archives_that_are_there_stay() {
     assert_eq!(times(), before);
 }
 
-/// A stand-in for rt: of the same version, but it proves nothing. Where kit/archive is there it makes that the archive, after a while.
+/// A stand-in for rt: of the same version, but it proves nothing. Where kit/object is there it makes an archive of that, after a while, but for
+/// the crate that kit/unproved names.
 const RT: &str = r#"#!/bin/sh
 kit=$(dirname "$0")/..
 [ "$1" != version ] || exec cat "$kit/KIT-ID"
 echo "rt was called: $*" | tee -a "$kit/calls"
-[ -f "$kit/archive" ] && sleep 1 && cp "$kit/archive" target/staticlib/libmespindro.a
+[ "$(cat "$kit/unproved" 2> /dev/null)" != "$2" ] || exit 1
+[ -f "$kit/object" ] && sleep 1 && cp "$kit/object" "$kit/$2.o" && rm -f "target/staticlib/lib$2.a" && ar rc "target/staticlib/lib$2.a" "$kit/$2.o"
 "#;
 
 /// A copy of all that tools/archive and tools/install read, with the archives; in kit/ is the stand-in.
@@ -261,7 +263,7 @@ impl Copy {
         assert_eq!(output.status.code(), Some(1), "{after}: {said}");
         let first = "tools/archive: proving and compiling";
         assert!(said.starts_with(first), "{after}: {said}");
-        let called = "rt was called: staticlib mespindro";
+        let called = "rt was called: staticlib exports";
         assert!(said.contains(called), "{after}: {said}");
         assert!(!self.stamp().exists(), "{after}");
     }
@@ -287,6 +289,7 @@ fn archives_are_made_again_where_something_has_changed() {
     let stamp = fs::read(copy.stamp()).unwrap();
     for part in [
         "crates/mespindro/src/lib.rt",
+        "crates/small_exports/src/lib.rt",
         "crates/table/specs/Lib.antt",
         "crates/calculus/proofs/Lib.antt",
         "crates.txt",
@@ -316,7 +319,7 @@ fn two_at_once_make_the_archives_once() {
     let copy = Copy::new("twice");
     // on x86-64 what rt makes is all that is made
     copy.program("kit/bin/uname", "#!/bin/sh\necho x86_64\n");
-    fs::write(copy.file("kit/archive"), "new").unwrap();
+    fs::write(copy.file("kit/object"), "new\n").unwrap();
     std::thread::scope(|scope| {
         for call in [(); 2].map(|()| scope.spawn(|| copy.archive())) {
             let output = call.join().unwrap();
@@ -324,12 +327,33 @@ fn two_at_once_make_the_archives_once() {
         }
     });
     let calls = fs::read_to_string(copy.file("kit/calls")).unwrap();
-    assert_eq!(calls, "rt was called: staticlib mespindro\n");
+    let once =
+        ["exports", "small_exports"].map(|size| format!("rt was called: staticlib {size}\n"));
+    assert_eq!(calls, once.concat());
     for archive in ["native", "staticlib"] {
         let file = copy.file("target").join(archive).join("libmespindro.a");
-        assert_eq!(fs::read_to_string(file).unwrap(), "new");
+        let objects = printed(Command::new("ar").arg("p").arg(file));
+        assert_eq!(objects, "new\n".repeat(2));
     }
     assert_kept(&copy.archive(), "a third call");
+}
+
+#[test]
+fn one_size_that_is_not_proved_leaves_the_archives() {
+    let copy = Copy::new("one");
+    copy.program("kit/bin/uname", "#!/bin/sh\necho x86_64\n");
+    fs::write(copy.file("kit/object"), "new\n").unwrap();
+    fs::write(copy.file("kit/unproved"), "small_exports").unwrap();
+    let archives = || {
+        ["native", "staticlib"]
+            .map(|place| fs::read(copy.file("target").join(place).join("libmespindro.a")).unwrap())
+    };
+    let before = archives();
+    let output = copy.archive();
+    assert_eq!(output.status.code(), Some(1), "{}", errors(&output));
+    let calls = fs::read_to_string(copy.file("kit/calls")).unwrap();
+    assert!(calls.ends_with("staticlib small_exports\n"), "{calls}");
+    assert!(archives() == before && !copy.stamp().exists());
 }
 
 #[test]

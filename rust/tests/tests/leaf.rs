@@ -3,7 +3,7 @@
 
 use mespindro::Reason;
 use mespindro_tests::evaluator::text::{read_text, write_text};
-use mespindro_tests::evaluator::{run_program, NODES, TEXT};
+use mespindro_tests::evaluator::{run_program, Size};
 use mespindro_tests::generate;
 use mespindro_tests::on_big_stack;
 use mespindro_tests::random::Random;
@@ -45,7 +45,7 @@ fn atom(bytes: &str) -> String {
 
 /// The evaluator's report, and its first atom; none where the values grow past what copying can hold.
 fn expected(input: &[u8]) -> Option<(Vec<u8>, String)> {
-    let program = match read_text(input) {
+    let program = match read_text(Size::SMALL, input) {
         Ok(program) => program,
         Err(refusal) => {
             let number = atom(&refusal.number().to_string());
@@ -53,7 +53,7 @@ fn expected(input: &[u8]) -> Option<(Vec<u8>, String)> {
             return Some((report, format!("refused {}", refusal.number())));
         }
     };
-    let run = run_program(program, NODES, 10_000)?;
+    let run = run_program(program, Size::SMALL.nodes, 10_000)?;
     let reason = match run.reason {
         Reason::Ended => "ended",
         Reason::Steps => "steps",
@@ -64,6 +64,32 @@ fn expected(input: &[u8]) -> Option<(Vec<u8>, String)> {
     report.extend(write_text(&run.end));
     report.push(b')');
     Some((report, reason.to_string()))
+}
+
+/// Texts on either side of each limit of 2,048 nodes, and such as only a larger library takes.
+fn at_the_limits() -> Vec<Vec<u8>> {
+    let mut texts: Vec<Vec<u8>> = [
+        "((1:x4:2047))",
+        "((1:x4:2048))",
+        "((1:x5:16383))",
+        "((1:L4:2047((1:v1:0))))",
+        "((1:L4:2048((1:v1:0))))",
+        "((1:v4:2047))",
+        "((1:v4:2048))",
+        "((1:c5:65535))",
+        "((1:c5:65536))",
+    ]
+    .iter()
+    .map(|text| text.as_bytes().to_vec())
+    .collect();
+    for levels in [2045, 2046, 4913, 4914, 16_381] {
+        let (heads, tails) = ("(1:n".repeat(levels), ")".repeat(levels));
+        texts.push(format!("({heads}(1:c1:1){tails})").into_bytes());
+    }
+    for bytes in [24_576, 24_577, 73_728, 196_608] {
+        texts.push(vec![b'('; bytes]);
+    }
+    texts
 }
 
 /// A text for each reason, and for each refusal of reading but 9, which a table of 2,048 nodes never gives.
@@ -83,13 +109,7 @@ fn known() -> Vec<Vec<u8>> {
     .iter()
     .map(|text| text.as_bytes().to_vec())
     .collect();
-    for nodes in [2045, 2046] {
-        let (heads, tails) = ("(1:n".repeat(nodes), ")".repeat(nodes));
-        texts.push(format!("({heads}(1:c1:1){tails})").into_bytes());
-    }
-    texts.push(vec![b'('; TEXT]);
-    texts.push(vec![b'('; TEXT + 1]);
-    texts.push(vec![b'('; 3 * TEXT]);
+    texts.extend(at_the_limits());
     for file in std::fs::read_dir(root().join("rules")).expect("rules/ is there") {
         let file = file.expect("a file of rules/").path();
         if file.extension().is_some_and(|e| e == "csexp") {
@@ -103,7 +123,9 @@ fn known() -> Vec<Vec<u8>> {
 fn what_leaf_writes() {
     let mut random = Random::new(0x1eaf);
     let mut texts = known();
-    texts.extend((0..TEXTS).map(|_| generate::text(&mut random)));
+    // every other one of a larger library's, with numbers and node counts that this program refuses
+    let sizes = Size::BOTH.into_iter().cycle().take(TEXTS);
+    texts.extend(sizes.map(|size| generate::text(size, &mut random)));
     let mut told = BTreeMap::new();
     for text in &texts {
         let Some((report, first)) = on_big_stack(|| expected(text)) else {

@@ -7,7 +7,8 @@ use mespindro_tests::evaluator::table::{read_table, OwnTable};
 use mespindro_tests::evaluator::tree::{
     application, fresh, program_size, term_size, Program, Term,
 };
-use mespindro_tests::evaluator::{Lengths, NODES};
+use mespindro_tests::evaluator::{Lengths, Size};
+use mespindro_tests::library::{at_both, Library};
 use mespindro_tests::on_big_stack;
 use mespindro_tests::random::Random;
 
@@ -40,26 +41,33 @@ fn structure(kind: &Kind, names: &[u16]) -> Term {
 }
 
 /// The same names as the alternatives of a closure's body. Its own location is none of theirs.
-fn body(kind: &Kind, names: &[u16]) -> Term {
+fn body(size: Size, kind: &Kind, names: &[u16]) -> Term {
     let elements = names.iter().map(|name| (kind.element)(*name));
-    Term::Allocated(2047, elements.collect())
+    Term::Allocated(size.largest(), elements.collect())
+}
+
+/// The sizes that take what fits this one.
+fn sizes_from(size: Size) -> impl Iterator<Item = Size> {
+    let sizes = Size::BOTH.into_iter();
+    sizes.filter(move |other| other.nodes >= size.nodes)
 }
 
 /// One step of the elements applied to what asks for a name: the library gives the number, the evaluator does too, and nothing else changes.
-fn takes(kind: &Kind, elements: &Term, number: u16) {
+fn takes(size: Size, kind: &Kind, elements: &Term, number: u16) {
     let before = vec![application(elements.clone(), (kind.asks)())];
     let after = vec![application(elements.clone(), (kind.element)(number))];
-    let (table, mut out) = (OwnTable::of(&before), OwnTable::empty(Lengths::FULL));
-    let count = table.nodes();
-    let made = mespindro::step(table.lent(), count, out.lent_mut()).expect("a step");
-    assert_eq!((made.rule, made.thread), (kind.rule, 0));
-    assert_eq!(
-        read_table(out.lent(), made.nodes).as_ref(),
-        Ok(&after),
-        "{number} is the least"
-    );
-    compare::step(table.lent(), count, Lengths::FULL)
-        .unwrap_or_else(|difference| panic!("{difference}"));
+    let table = OwnTable::of(&before);
+    let (count, lengths) = (table.nodes(), Lengths::for_nodes(size.nodes));
+    for size in sizes_from(size) {
+        let mut out = OwnTable::empty(lengths);
+        let made = (Library::at(size).step)(table.lent(), count, out.lent_mut());
+        let made = made.expect("a step");
+        assert_eq!((made.rule, made.thread), (kind.rule, 0));
+        let told = read_table(size, out.lent(), made.nodes);
+        assert_eq!(told.as_ref(), Ok(&after), "{number} is the least");
+        compare::step(size, table.lent(), count, lengths)
+            .unwrap_or_else(|difference| panic!("{difference}"));
+    }
 }
 
 /// The names in three orders.
@@ -86,8 +94,8 @@ fn left_out(kind: &Kind, most: u16) -> usize {
         for gap in gaps {
             let names = (0..=k).filter(|name| *name != gap).collect();
             for order in orders(names, &mut random) {
-                takes(kind, &structure(kind, &order), gap);
-                takes(kind, &body(kind, &order), gap);
+                takes(Size::SMALL, kind, &structure(kind, &order), gap);
+                takes(Size::SMALL, kind, &body(Size::SMALL, kind, &order), gap);
                 tried += 2;
             }
         }
@@ -111,6 +119,23 @@ fn locations_in_every_order() {
     println!("{tried} threads");
 }
 
+/// As many names as 16,384 nodes hold, one of them left out: numbers that the small size does not have are given too.
+#[test]
+fn names_beyond_the_small_size() {
+    on_big_stack(|| {
+        let mut random = Random::new(66);
+        for (kind, most) in [(&VARIABLES, 8188), (&LOCATIONS, 5459)] {
+            for gap in [0, 64, 2047, 2048, most - 1, most] {
+                let names = (0..=most).filter(|name| *name != gap).collect();
+                for order in orders(names, &mut random) {
+                    takes(Size::LARGE, kind, &structure(kind, &order), gap);
+                    takes(Size::LARGE, kind, &body(Size::LARGE, kind, &order), gap);
+                }
+            }
+        }
+    });
+}
+
 /// Numbers far apart and numbers that stand often: only those that are met count, however often they are.
 #[test]
 fn scattered_and_repeated() {
@@ -122,11 +147,11 @@ fn scattered_and_repeated() {
             // the body's own location is 2,047
             let end = if kind.rule == Rule::Alloc { 2047 } else { 2048 };
             let range = random.pick(&[2, 60, 70, 130, 400, end]);
-            let count = random.between(0, (NODES - 10) / (kind.size + 1));
+            let count = random.between(0, (Size::SMALL.nodes - 10) / (kind.size + 1));
             let names: Vec<u16> = (0..count).map(|_| random.below(range) as u16).collect();
             let least = (0..).find(|name| !names.contains(name)).expect("a number");
-            takes(kind, &structure(kind, &names), least);
-            takes(kind, &body(kind, &names), least);
+            takes(Size::SMALL, kind, &structure(kind, &names), least);
+            takes(Size::SMALL, kind, &body(Size::SMALL, kind, &names), least);
             tried += 2;
         }
     });
@@ -141,9 +166,13 @@ fn a_run_beside_many() {
     let program: Program = vec![application(structure(&VARIABLES, &names), nested)];
     let end = vec![application(structure(&VARIABLES, &names), Term::Free(700))];
     assert_eq!(program_size(&program), 1905);
-    let mut table = OwnTable::within(&program, Lengths::FULL);
-    let mut work = OwnTable::empty(Lengths::FULL);
-    let stop = mespindro::run(table.lent_mut(), 1905, work.lent_mut(), 10_000).expect("a run");
+    let lengths = Lengths::for_nodes(Size::SMALL.nodes);
+    let (stop, table) = at_both(|library| {
+        let mut table = OwnTable::within(&program, lengths);
+        let mut work = OwnTable::empty(lengths);
+        let stop = (library.run)(table.lent_mut(), 1905, work.lent_mut(), 10_000);
+        (stop.expect("a run"), table)
+    });
     assert_eq!((stop.steps, stop.counts.fresh), (500, 500));
-    assert_eq!(read_table(table.lent(), stop.nodes), Ok(end));
+    assert_eq!(read_table(Size::SMALL, table.lent(), stop.nodes), Ok(end));
 }

@@ -5,7 +5,7 @@ use std::path::Path;
 use mespindro_tests::evaluator::table::OwnTable;
 use mespindro_tests::evaluator::text::write_text;
 use mespindro_tests::evaluator::tree::{application, fresh, guard, Program, Term};
-use mespindro_tests::evaluator::Lengths;
+use mespindro_tests::evaluator::{Lengths, Size};
 use mespindro_tests::generate;
 use mespindro_tests::on_big_stack;
 use mespindro_tests::random::Random;
@@ -14,7 +14,7 @@ use rules::notation::{from_text, from_text_named, program, read, text, to_text, 
 
 fn random_programs(count: usize) -> impl Iterator<Item = Program> {
     let mut random = Random::new(2);
-    (0..count).map(move |_| generate::sound_program(&mut random))
+    (0..count).map(move |_| generate::sound_program(Size::LARGE, &mut random))
 }
 
 /// Canonical to readable to canonical: the same bytes; and readable, once printed, prints the same again.
@@ -75,12 +75,14 @@ fn deep_programs() {
         |inner| guard(Term::Constructor(1), inner),
         |inner| Term::Abstraction(vec![inner]),
     ];
-    for (chain, levels) in chains.into_iter().zip([2045, 1022, 1022, 681]) {
-        let made = |levels| (0..levels).fold(Term::Constructor(0), |inner, _| chain(inner));
-        check_round_trip(&write_text(&[made(levels)]), &Names::default());
-        let error = program(&write_text(&[made(levels + 1)])).unwrap_err();
-        assert!(error.message.contains("more than 2048 nodes"), "{error}");
-    }
+    on_big_stack(|| {
+        for (chain, levels) in chains.into_iter().zip([16_381, 8190, 8190, 5460]) {
+            let made = |levels| (0..levels).fold(Term::Constructor(0), |inner, _| chain(inner));
+            check_round_trip(&write_text(&[made(levels)]), &Names::default());
+            let error = program(&write_text(&[made(levels + 1)])).unwrap_err();
+            assert!(error.message.contains("more than 16384 nodes"), "{error}");
+        }
+    });
     println!("4 chains at the node limit, 4 beyond it");
 }
 
@@ -97,7 +99,7 @@ fn compare_with_the_library() -> (usize, usize) {
     let mut table = OwnTable::empty(Lengths::FULL);
     let (mut accepted, mut refused) = (0, 0);
     for _ in 0..20_000 {
-        let given = generate::text(&mut random);
+        let given = generate::text(Size::LARGE, &mut random);
         let library = mespindro::read(&given, table.lent_mut()).is_ok();
         assert_eq!(
             from_text(&given).is_ok(),
@@ -214,10 +216,10 @@ fn errors_of_the_readable_form() {
             "cN goes from 0 to 65535, without leading zeros",
         ),
         (
-            "(x2048)",
+            "(x16384)",
             1,
             2,
-            "xN goes from 0 to 2047, without leading zeros",
+            "xN goes from 0 to 16383, without leading zeros",
         ),
         (
             "(c01)",
@@ -232,16 +234,16 @@ fn errors_of_the_readable_form() {
         ("((l it (g (u it c1) c2)))", 1, 9, NO_TERM_G),
         ("((l it c1))", 1, 8, "a program's '(' must stand here"),
         (
-            "((L 2048 ()))",
+            "((L 16384 ()))",
             1,
             5,
-            "a location from 0 to 2047 must stand here",
+            "a location from 0 to 16383 must stand here",
         ),
         (
             "((L ()))",
             1,
             5,
-            "a location from 0 to 2047 must stand here",
+            "a location from 0 to 16383 must stand here",
         ),
         ("((u c1))", 1, 7, "a term must stand here"),
         ("((u c1 c2 c3))", 1, 11, "')' must stand here"),

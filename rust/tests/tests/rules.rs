@@ -3,7 +3,7 @@
 use std::path::{Path, PathBuf};
 
 use mespindro::Reason;
-use mespindro_tests::evaluator::{self, text::write_text};
+use mespindro_tests::evaluator::{self, text::write_text, Size};
 use mespindro_tests::on_big_stack;
 use mespindro_tests::short::without_names;
 use rules::notation;
@@ -60,8 +60,8 @@ fn the_evaluator_agrees() {
         let text = file(&format!("{name}.csexp"));
         let end = run(&RuleSet::of(text.as_bytes()).unwrap(), STEPS).unwrap();
         let threads: Vec<Term> = end.threads.into_iter().map(|(_, term)| term).collect();
-        let program = evaluator::text::read_text(text.as_bytes()).unwrap();
-        let other = on_big_stack(|| evaluator::run_program(program, evaluator::NODES, STEPS));
+        let program = evaluator::text::read_text(Size::LARGE, text.as_bytes()).unwrap();
+        let other = on_big_stack(|| evaluator::run_program(program, Size::SMALL.nodes, STEPS));
         let other = other.expect("small enough to copy");
         assert_eq!(other.stop(), end.stop, "{name}");
         assert_eq!(other.end, without_names(&threads), "{name}");

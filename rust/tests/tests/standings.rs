@@ -4,8 +4,9 @@ use mespindro::{Refusal, Standing};
 use mespindro_tests::compare;
 use mespindro_tests::evaluator::table::OwnTable;
 use mespindro_tests::evaluator::tree::{application, Program, Term};
-use mespindro_tests::evaluator::{self, NODES};
+use mespindro_tests::evaluator::{self, Size};
 use mespindro_tests::generate;
+use mespindro_tests::library::at_both;
 use mespindro_tests::on_big_stack;
 use mespindro_tests::random::Random;
 use mespindro_tests::short;
@@ -16,8 +17,11 @@ use Standing::{Answer, Open, Partial, Stuck};
 fn standing(program: &Program, k: usize) -> Result<Standing, Refusal> {
     let table = OwnTable::of(program);
     let (table, count) = (table.lent(), table.nodes());
-    compare::standing(table, count, k).unwrap_or_else(|difference| panic!("{difference}"));
-    mespindro::standing(table, count, k)
+    for size in Size::BOTH {
+        let told = compare::standing(size, table, count, k);
+        told.unwrap_or_else(|difference| panic!("{difference}"));
+    }
+    at_both(|library| (library.standing)(table, count, k))
 }
 
 /// Request 3's cases: the first thread's standing.
@@ -72,7 +76,7 @@ fn further_threads() {
     let incoherent = short::program("((a c1 c2) (a (L 0 (c1)) (L 0 (c2))))");
     assert_eq!(standing(&incoherent, 0), Err(Refusal::Incoherent));
     let loose = OwnTable::of_numbers(&[1, 0, 4, 1, 1, 0, 2, 0, 0, 0], 5);
-    let told = mespindro::standing(loose.lent(), 5, 0);
+    let told = at_both(|library| (library.standing)(loose.lent(), 5, 0));
     assert_eq!(told, Err(Refusal::NoBinder));
 }
 
@@ -101,7 +105,7 @@ fn one_unknown_anywhere() {
             for unknown in [Term::Free(0), closure.clone()] {
                 parts[place] = unknown;
                 let table = OwnTable::of(&[chain(&parts, right)]);
-                let told = mespindro::standing(table.lent(), table.nodes(), 0);
+                let told = at_both(|library| (library.standing)(table.lent(), table.nodes(), 0));
                 assert_eq!(told, Ok(Partial), "argument {place}");
                 tried += 1;
             }
@@ -119,9 +123,9 @@ fn by_kinds() {
     on_big_stack(|| {
         let mut random = Random::new(3);
         for _ in 0..5_000 {
-            let program = generate::sound_program(&mut random);
+            let program = generate::sound_program(Size::SMALL, &mut random);
             count_standings(&program, &mut told);
-            if let Some(run) = evaluator::run_program(program, NODES, 30) {
+            if let Some(run) = evaluator::run_program(program, Size::SMALL.nodes, 30) {
                 count_standings(&run.end, &mut told);
             }
         }
@@ -134,9 +138,11 @@ fn count_standings(program: &Program, told: &mut [usize; 4]) {
     let table = OwnTable::of(program);
     let (table, count) = (table.lent(), table.nodes());
     for (k, thread) in program.iter().enumerate() {
-        let standing = mespindro::standing(table, count, k).expect("a thread of a sound program");
+        let standing = at_both(|library| (library.standing)(table, count, k));
+        let standing = standing.expect("a thread of a sound program");
         assert_eq!(standing, evaluator::step::standing(thread));
-        let kinds = mespindro::thread(table, count, k).iter().step_by(2);
+        let kinds = at_both(|library| (library.thread)(table, count, k).to_vec());
+        let kinds = kinds.iter().step_by(2);
         let unknown = kinds.filter(|kind| [3, 6].contains(*kind)).count();
         assert_eq!(standing == Answer, standing != Open && unknown == 0);
         told[usize::from(standing.code()) - 1] += 1;

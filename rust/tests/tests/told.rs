@@ -8,6 +8,7 @@ use mespindro_tests::evaluator;
 use mespindro_tests::evaluator::step::{step, Step as Made};
 use mespindro_tests::evaluator::text::write_text;
 use mespindro_tests::evaluator::tree::Program;
+use mespindro_tests::evaluator::{Lengths, Size};
 use mespindro_tests::generate;
 use mespindro_tests::on_big_stack;
 use mespindro_tests::random::Random;
@@ -71,7 +72,7 @@ fn each_step(seed: u64, see: &mut dyn FnMut(&RuleSet, &[Term], &Step)) -> usize 
     let mut random = Random::new(seed);
     let mut steps = 0;
     for _ in 0..PROGRAMS {
-        let rule_set = with_names(&generate::sound_program(&mut random));
+        let rule_set = with_names(&generate::sound_program(Size::SMALL, &mut random));
         let mut follow = Follow::new(&rule_set).unwrap();
         for _ in 0..STEPS {
             let before = follow.program().to_vec();
@@ -263,7 +264,7 @@ fn every_branch() {
     let mut branches = 0;
     on_big_stack(|| {
         for _ in 0..PROGRAMS {
-            let rule_set = with_names(&generate::sound_program(&mut random));
+            let rule_set = with_names(&generate::sound_program(Size::SMALL, &mut random));
             let mut story = Story::new(&rule_set);
             let mut dropped = 0;
             let end = run_seen(&rule_set, STEPS, &mut |step| {
@@ -405,9 +406,9 @@ fn ends() {
     let mut compared = 0;
     on_big_stack(|| {
         for _ in 0..1000 {
-            let program = generate::sound_program(&mut random);
+            let program = generate::sound_program(Size::SMALL, &mut random);
             let end = run(&with_names(&program), STEPS).unwrap();
-            let Some(other) = evaluator::run_program(program, evaluator::NODES, STEPS) else {
+            let Some(other) = evaluator::run_program(program, Size::SMALL.nodes, STEPS) else {
                 continue;
             };
             let threads: Vec<Term> = end.threads.into_iter().map(|(_, term)| term).collect();
@@ -419,4 +420,31 @@ fn ends() {
     });
     println!("{compared} ends compared");
     assert!(compared > 900);
+}
+
+/// Of large rule sets too, after some steps: one that a small leaf does not take has the room of 16,384.
+#[test]
+fn ends_of_large_rule_sets() {
+    let mut random = Random::new(17);
+    let mut large = 0;
+    on_big_stack(|| {
+        for _ in 0..40 {
+            let program = generate::large_program(Size::LARGE, &mut random);
+            let rule_set = with_names(&program);
+            let taken = evaluator::read(Size::SMALL, &write_text(&program), Lengths::ANY);
+            let size = match taken {
+                Ok(_) => Size::SMALL,
+                Err(_) => Size::LARGE,
+            };
+            assert_eq!(rule_set.room(), size.nodes);
+            let end = run(&rule_set, 20).unwrap();
+            let other = evaluator::run_program(program, size.nodes, 20);
+            let other = other.expect("small enough to copy");
+            let threads: Vec<Term> = end.threads.into_iter().map(|(_, term)| term).collect();
+            assert_eq!(without_names(&threads), other.end);
+            assert_eq!(end.stop, other.stop());
+            large += usize::from(size == Size::LARGE);
+        }
+    });
+    assert!(large >= 10, "only {large} large rule sets");
 }

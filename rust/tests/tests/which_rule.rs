@@ -2,11 +2,11 @@
 //! on random programs; and statements about them that look true and are not. The request's cases are in cases/which-rule.txt.
 
 mod in_c;
-use mespindro::{Counts, Move, Reason, Refusal, Rule, Standing, Stop};
+use mespindro::{Counts, Move, Reason, Refusal, Rule, Standing, Stop, NODES};
 use mespindro_tests::evaluator::table::{read_table, write_table, OwnTable};
 use mespindro_tests::evaluator::text::write_text;
 use mespindro_tests::evaluator::tree::{fresh, program_size, Program, Term};
-use mespindro_tests::evaluator::{counts, Lengths, NODES};
+use mespindro_tests::evaluator::{counts, Lengths, Size};
 use mespindro_tests::generate;
 use mespindro_tests::on_big_stack;
 use mespindro_tests::random::Random;
@@ -16,7 +16,7 @@ use mespindro_tests::short;
 fn step(program: &Program) -> Result<(Move, Program), Refusal> {
     let (table, mut out) = (OwnTable::of(program), OwnTable::empty(Lengths::FULL));
     let made = mespindro::step(table.lent(), table.nodes(), out.lent_mut())?;
-    let after = read_table(out.lent(), made.nodes).expect("a step makes a program");
+    let after = read_table(Size::LARGE, out.lent(), made.nodes).expect("a step makes a program");
     Ok((made, after))
 }
 
@@ -27,7 +27,7 @@ fn run(program: &Program, room: usize, most: u32) -> (Stop, Program) {
     let mut work = OwnTable::empty(lengths);
     let count = program_size(program);
     let stop = mespindro::run(table.lent_mut(), count, work.lent_mut(), most).expect("a run");
-    let end = read_table(table.lent(), stop.nodes).expect("the end is a program");
+    let end = read_table(Size::LARGE, table.lent(), stop.nodes).expect("the end is a program");
     (stop, end)
 }
 
@@ -88,15 +88,23 @@ fn prints(mut program: std::process::Command) {
     assert_eq!(String::from_utf8_lossy(&output.stdout), PRINTED);
 }
 
+/// The source, for the plain calls and for the small ones.
+const SOURCE: &str = "rust/tests/c/which_rule.c";
+const SIZES: [&[&str]; 2] = [&["-std=c11"], &["-std=c11", "-DSMALL"]];
+
 #[test]
 fn in_c() {
-    prints(in_c::for_this_machine("rust/tests/c/which_rule.c", "c11")());
+    for flags in SIZES {
+        prints(in_c::for_this_machine(SOURCE, flags)());
+    }
 }
 
 #[test]
 fn in_c_for_the_switch() {
-    if let Some(program) = in_c::for_the_switch("rust/tests/c/which_rule.c") {
-        prints(program());
+    for flags in SIZES {
+        if let Some(program) = in_c::for_the_switch(SOURCE, flags) {
+            prints(program());
+        }
     }
 }
 
@@ -120,7 +128,7 @@ fn on_random_programs(seed: u64, check: fn(&Program, &mut Random) -> u32) {
     let steps = on_big_stack(|| {
         let mut random = Random::new(seed);
         let programs = (0..PROGRAMS).map(|_| {
-            let program = generate::sound_program(&mut random);
+            let program = generate::sound_program(Size::LARGE, &mut random);
             check(&program, &mut random)
         });
         programs.sum::<u32>()
@@ -189,7 +197,7 @@ fn counts_add_up() {
 #[test]
 fn no_count_falls() {
     on_random_programs(23, |program, random| {
-        let behind = generate::sound_program(random);
+        let behind = generate::sound_program(Size::LARGE, random);
         let added = program_size(&behind) - 1;
         let room = program_size(program) + random.pick(&[0, 2, 8, 200]);
         let larger = room + added + random.pick(&[0, 0, 1, 50]);

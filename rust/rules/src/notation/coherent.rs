@@ -2,8 +2,8 @@
 
 use std::collections::BTreeMap;
 
-use super::{canonical, Term};
-use crate::term::each_term;
+use super::Term;
+use crate::term::{each_term, same};
 
 /// The first allocated abstraction that breaks it, counted in the text's order, and how; none where every thread is coherent.
 pub fn fault(program: &[Term]) -> Option<(usize, String)> {
@@ -36,8 +36,7 @@ fn fault_of_thread(closures: &[(u16, &[Term])]) -> Option<(usize, String)> {
             let message = format!("(L {location} …) uses a variable that is bound outside it");
             return Some((place, message));
         }
-        let text = canonical::write(body);
-        if *bodies.entry(location).or_insert_with(|| text.clone()) != text {
+        if !same(bodies.entry(location).or_insert(*body), body) {
             let message = format!("location {location} has two different bodies in one thread");
             return Some((place, message));
         }

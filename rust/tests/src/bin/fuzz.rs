@@ -1,8 +1,9 @@
-//! `fuzz SECONDS [SEED]`: compares the library with the evaluator on random inputs for so long. Prints the seed first; where the two differ,
-//! the smallest call it finds that still does, and ends with status 1.
+//! `fuzz SECONDS [SEED]`: compares the library with the evaluator on random inputs, at either size, for so long. Prints the seed first; where
+//! the two differ, the smallest call it finds that still does, and ends with status 1.
 
 use mespindro_tests::calls::random_calls;
 use mespindro_tests::compare::{compare, Call, Tally};
+use mespindro_tests::evaluator::Size;
 use mespindro_tests::on_big_stack;
 use mespindro_tests::progress::Progress;
 use mespindro_tests::random::Random;
@@ -42,11 +43,12 @@ fn fuzz(time: Duration, seed: u64) -> ExitCode {
             let compared = tally.compared();
             format!("{past} of {all} s, {inputs} inputs, {compared} compared")
         });
-        for call in random_calls(&mut random) {
-            if tally.compare(&call).is_err() {
+        let size = random.pick(&Size::BOTH);
+        for call in random_calls(size, &mut random) {
+            if tally.compare(size, &call).is_err() {
                 progress.clear();
-                println!("input {inputs}");
-                report(shrink(call));
+                println!("input {inputs}, {} nodes", size.nodes);
+                report(size, shrink(size, call));
                 return ExitCode::FAILURE;
             }
         }
@@ -57,8 +59,8 @@ fn fuzz(time: Duration, seed: u64) -> ExitCode {
     ExitCode::SUCCESS
 }
 
-fn report(call: Call) {
-    if let Err(difference) = compare(&call) {
+fn report(size: Size, call: Call) {
+    if let Err(difference) = compare(size, &call) {
         println!("{difference}");
     }
     println!("{call:?}");

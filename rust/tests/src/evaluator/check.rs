@@ -5,7 +5,7 @@ use mespindro::Refusal;
 
 /// Whether a bound variable anywhere in the program has no binder.
 pub fn has_loose_index(program: &[Term]) -> bool {
-    program.iter().any(|thread| reaches_out(thread, 0))
+    needs_of_all(program).0 > 0
 }
 
 /// Whether every thread is coherent.
@@ -24,28 +24,46 @@ pub fn checked(program: Program) -> Result<Program, Refusal> {
     }
 }
 
-/// Whether a variable of the term points past its own binders and `around` more.
-fn reaches_out(term: &Term, around: usize) -> bool {
-    let mut found = false;
-    each_term(term, around, &mut |t, binders| {
-        if let Term::Bound(index) = t {
-            found |= usize::from(*index) >= binders;
+/// How many binders around a term its variables need, and whether every allocated abstraction in it needs none.
+fn needs(term: &Term) -> (usize, bool) {
+    match term {
+        Term::Bound(index) => (usize::from(*index) + 1, true),
+        Term::Free(_) | Term::Constructor(_) => (0, true),
+        Term::Abstraction(body) => below_binder(needs_of_all(body)),
+        Term::Fresh(part) => below_binder(needs(part)),
+        Term::Allocated(_, body) => {
+            let (binders, closed) = below_binder(needs_of_all(body));
+            (binders, closed && binders == 0)
         }
-    });
-    found
+        Term::Application(l, r) | Term::Guard(l, r) | Term::Unification(l, r) => {
+            together(needs(l), needs(r))
+        }
+    }
+}
+
+fn needs_of_all(program: &[Term]) -> (usize, bool) {
+    program.iter().map(needs).fold((0, true), together)
+}
+
+fn below_binder((binders, closed): (usize, bool)) -> (usize, bool) {
+    (binders.saturating_sub(1), closed)
+}
+
+fn together(one: (usize, bool), other: (usize, bool)) -> (usize, bool) {
+    (one.0.max(other.0), one.1 && other.1)
 }
 
 fn is_coherent_thread(thread: &Term) -> bool {
-    let mut closures: Vec<(u16, &Term, &Program)> = Vec::new();
+    let mut closures: Vec<(u16, &Program)> = Vec::new();
     each_term(thread, 0, &mut |t, _| {
         if let Term::Allocated(location, body) = t {
-            closures.push((*location, t, body));
+            closures.push((*location, body));
         }
     });
-    let closed = closures.iter().all(|(_, t, _)| !reaches_out(t, 0));
-    let equal = closures.iter().enumerate().all(|(i, (location, _, body))| {
+    let (_, closed) = needs(thread);
+    let equal = closures.iter().enumerate().all(|(i, (location, body))| {
         let earlier = &closures[..i];
-        earlier.iter().all(|(l, _, b)| l != location || b == body)
+        earlier.iter().all(|(l, b)| l != location || b == body)
     });
     closed && equal
 }

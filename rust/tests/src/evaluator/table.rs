@@ -2,7 +2,7 @@
 
 use super::column::{column, is_column_of};
 use super::tree::{application, fresh, guard, unification, Program, Term};
-use super::NODES;
+use super::Size;
 use mespindro::{Refusal, Table};
 
 /// A table and its column in memory of their own.
@@ -27,11 +27,12 @@ impl OwnTable {
 }
 
 /// The program of the first `count` nodes; `None` is refusal 1.
-pub fn decode(table: &[u16], count: usize) -> Option<Program> {
-    if count == 0 || count > NODES || count > table.len() / 2 {
+pub fn decode(size: Size, table: &[u16], count: usize) -> Option<Program> {
+    if count == 0 || count > size.nodes || count > table.len() / 2 {
         return None;
     }
     let mut nodes = Nodes {
+        size,
         table: &table[..2 * count],
     };
     let program = nodes.program()?;
@@ -39,8 +40,8 @@ pub fn decode(table: &[u16], count: usize) -> Option<Program> {
 }
 
 /// The program of a table and its column, or refusal 1, 14, 6 or 8.
-pub fn read_table(table: Table<'_>, count: usize) -> Result<Program, Refusal> {
-    let program = decode(table.numbers, count).ok_or(Refusal::NoProgram)?;
+pub fn read_table(size: Size, table: Table<'_>, count: usize) -> Result<Program, Refusal> {
+    let program = decode(size, table.numbers, count).ok_or(Refusal::NoProgram)?;
     if !is_column_of(table.column, &program) {
         return Err(Refusal::WrongColumn);
     }
@@ -49,6 +50,7 @@ pub fn read_table(table: Table<'_>, count: usize) -> Result<Program, Refusal> {
 
 /// The nodes that are not read yet.
 struct Nodes<'t> {
+    size: Size,
     table: &'t [u16],
 }
 
@@ -73,7 +75,7 @@ impl Nodes<'_> {
     fn term(&mut self) -> Option<Term> {
         let (kind, number) = self.next()?;
         let in_range = match kind {
-            2 | 3 | 6 => number < 2048,
+            2 | 3 | 6 => number <= self.size.largest(),
             4 => true,
             _ => number == 0,
         };

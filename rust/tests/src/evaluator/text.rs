@@ -1,7 +1,7 @@
 //! Texts: Rivest's canonical S-expressions without display hints.
 
 use super::tree::{application, fresh, guard, program_size, unification, Program, Term};
-use super::{check, NODES, TEXT};
+use super::{check, Size};
 use mespindro::Refusal;
 
 /// An S-expression: an atom's bytes, or a list.
@@ -14,12 +14,12 @@ pub enum Expression {
 use Expression::{Atom, List};
 
 /// The program of a text, or refusal 2 to 8.
-pub fn read_text(text: &[u8]) -> Result<Program, Refusal> {
-    if text.len() > TEXT {
+pub fn read_text(size: Size, text: &[u8]) -> Result<Program, Refusal> {
+    if text.len() > size.text() {
         return Err(Refusal::TooLong);
     }
     let expression = parse(text).ok_or(Refusal::NotCanonical)?;
-    let mut form = Form { lowest: None };
+    let mut form = Form { size, lowest: None };
     let program = form.program(&expression);
     if let Some(refusal) = form.lowest {
         return Err(refusal);
@@ -27,7 +27,7 @@ pub fn read_text(text: &[u8]) -> Result<Program, Refusal> {
     if check::has_loose_index(&program) {
         return Err(Refusal::NoBinder);
     }
-    if program_size(&program) > NODES {
+    if program_size(&program) > size.nodes {
         return Err(Refusal::TooManyNodes);
     }
     check::checked(program)
@@ -74,6 +74,7 @@ fn is_plain_decimal(digits: &[u8]) -> bool {
 
 /// Builds the program of an expression and keeps the lower of refusals 4 and 5; what stands in a refused place does not matter.
 struct Form {
+    size: Size,
     lowest: Option<Refusal>,
 }
 
@@ -93,6 +94,7 @@ impl Form {
     }
 
     fn term(&mut self, expression: &Expression) -> Term {
+        let largest = self.size.largest();
         let List(members) = expression else {
             return self.out_of_place();
         };
@@ -100,11 +102,11 @@ impl Form {
             return self.out_of_place();
         };
         match (tag.as_slice(), parts) {
-            (b"v", [n]) => Term::Bound(self.number(n, 2047)),
-            (b"x", [n]) => Term::Free(self.number(n, 2047)),
+            (b"v", [n]) => Term::Bound(self.number(n, largest)),
+            (b"x", [n]) => Term::Free(self.number(n, largest)),
             (b"c", [n]) => Term::Constructor(self.number(n, 65535)),
             (b"l", [body]) => Term::Abstraction(self.program(body)),
-            (b"L", [n, body]) => Term::Allocated(self.number(n, 2047), self.program(body)),
+            (b"L", [n, body]) => Term::Allocated(self.number(n, largest), self.program(body)),
             (b"a", [l, r]) => application(self.term(l), self.term(r)),
             (b"n", [part]) => fresh(self.term(part)),
             (b"g", [l, r]) => guard(self.term(l), self.term(r)),

@@ -36,15 +36,22 @@ fn words(paths: &[&Path]) -> Vec<String> {
     paths.iter().map(|p| p.display().to_string()).collect()
 }
 
-/// Builds a source for this machine; what is answered starts the program.
-pub fn for_this_machine(source: &str, standard: &str) -> impl Fn() -> Command {
+/// Where the program of a source that is built with these flags goes.
+fn program_of(source: &Path, flags: &[&str], end: &str) -> PathBuf {
+    let name = source.file_stem().unwrap().to_str().unwrap();
+    folder().join(format!("{name}{}{end}", flags.concat()))
+}
+
+/// Builds a source for this machine; what is answered starts the program. `-DSMALL` among the flags is for the small calls: c/size.h.
+pub fn for_this_machine(source: &str, flags: &[&str]) -> impl Fn() -> Command {
     let source = root().join(source);
-    let program = folder().join(source.file_stem().unwrap());
+    let program = program_of(&source, flags, "");
     let archive = archive("native");
     let mut arguments: Vec<String> = ["-Wall", "-Wextra", "-Werror", "-pedantic", "-O2"]
         .map(String::from)
         .to_vec();
-    arguments.extend([format!("-std={standard}"), include(), "-o".to_string()]);
+    arguments.extend(flags.iter().map(|flag| flag.to_string()));
+    arguments.extend([include(), "-o".to_string()]);
     arguments.extend(words(&[&program, &source, &archive]));
     build("cc", &arguments);
     move || Command::new(&program)
@@ -52,7 +59,7 @@ pub fn for_this_machine(source: &str, standard: &str) -> impl Fn() -> Command {
 
 /// Builds a source for the switch; what is answered starts the program. None where `for_this_machine` is for the switch already, or where there
 /// is no emulator.
-pub fn for_the_switch(source: &str) -> Option<impl Fn() -> Command> {
+pub fn for_the_switch(source: &str, flags: &[&str]) -> Option<impl Fn() -> Command> {
     if std::env::consts::ARCH == "x86_64" {
         println!("skipped: on x86-64 the test beside links the switch's archive");
         return None;
@@ -62,9 +69,8 @@ pub fn for_the_switch(source: &str) -> Option<impl Fn() -> Command> {
         return None;
     };
     let source = root().join(source);
-    let name = source.file_stem().unwrap().to_str().unwrap();
-    let program = folder().join(format!("{name}-x86-64"));
-    build_for_switch(&programs, &libraries, &source, &program);
+    let program = program_of(&source, flags, "-x86-64");
+    build_for_switch(&programs, &libraries, &source, flags, &program);
     Some(move || {
         let mut emulator = Command::new(programs.join("bin/qemu-x86_64"));
         emulator.arg("-L").arg(&programs);
@@ -107,11 +113,18 @@ fn headers() -> Vec<String> {
         .collect()
 }
 
-fn build_for_switch(programs: &Path, libraries: &Path, source: &Path, program: &Path) {
+fn build_for_switch(
+    programs: &Path,
+    libraries: &Path,
+    source: &Path,
+    flags: &[&str],
+    program: &Path,
+) {
     let object = program.with_extension("o");
     let mut arguments: Vec<String> = ["--target=x86_64-linux-gnu", "-O2", "-fPIE"]
         .map(String::from)
         .to_vec();
+    arguments.extend(flags.iter().map(|flag| flag.to_string()));
     arguments.extend(headers());
     arguments.extend([include(), "-c".to_string(), source.display().to_string()]);
     arguments.extend(["-o".to_string(), object.display().to_string()]);

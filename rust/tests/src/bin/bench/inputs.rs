@@ -2,6 +2,7 @@
 
 use mespindro_tests::evaluator::table::{write_table, OwnTable};
 use mespindro_tests::evaluator::text::read_text;
+use mespindro_tests::evaluator::Size;
 use mespindro_tests::random::Random;
 use std::path::Path;
 
@@ -44,12 +45,12 @@ pub fn cases() -> Vec<Case> {
         ),
         case(
             "two equal structures of 1,000 nodes unified",
-            equal_structures(),
+            equal_structures(499),
             1,
         ),
         case(
             "a structure of 1,000 nodes against one of variables",
-            variable_structure(),
+            variable_structure(499),
             1,
         ),
         case("a doubling unifier, 11 levels", doubling(11), 1),
@@ -61,7 +62,7 @@ pub fn cases() -> Vec<Case> {
         case("2,045 nested fresh variables", nested_fresh(2045), 10_000),
         case(
             "700 shuffled variables and 500 nested fresh nodes",
-            beside_variables(700, &[vec![(8, 0); 500], vec![(4, 1)]].concat()),
+            new_beside(700, 500),
             10_000,
         ),
         case(
@@ -175,18 +176,12 @@ fn goal(left: Vec<Node>, right: Vec<Node>) -> Vec<Node> {
     nodes
 }
 
-fn equal_structures() -> Vec<u16> {
-    one_thread(&goal(
-        structure(499, |_| (4, 2)),
-        structure(499, |_| (4, 2)),
-    ))
+fn equal_structures(k: u16) -> Vec<u16> {
+    one_thread(&goal(structure(k, |_| (4, 2)), structure(k, |_| (4, 2))))
 }
 
-fn variable_structure() -> Vec<u16> {
-    one_thread(&goal(
-        structure(499, |_| (4, 2)),
-        structure(499, |i| (3, i)),
-    ))
+fn variable_structure(k: u16) -> Vec<u16> {
+    one_thread(&goal(structure(k, |_| (4, 2)), structure(k, |i| (3, i))))
 }
 
 /// The tower D(n): the variable n has 2^(n+2) - 3 nodes.
@@ -233,6 +228,11 @@ fn beside_variables(k: u16, part: &[Node]) -> Vec<u16> {
     nodes.extend(structure(k, |i| (3, names[i as usize])));
     nodes.extend(part);
     one_thread(&nodes)
+}
+
+/// Nested fresh nodes beside the first k variables.
+fn new_beside(k: u16, fresh: usize) -> Vec<u16> {
+    beside_variables(k, &[vec![(8, 0); fresh], vec![(4, 1)]].concat())
 }
 
 fn nested_guards(n: usize) -> Vec<u16> {
@@ -291,7 +291,7 @@ fn rules(name: &str) -> Vec<u16> {
         .join(name)
         .with_extension("csexp");
     let text = std::fs::read(file).expect("a rule set is there");
-    write_table(&read_text(&text).expect("a rule set is read"))
+    write_table(&read_text(Size::SMALL, &text).expect("a rule set is read"))
 }
 
 /// A structure of 1,999 nodes, alone in its program.
@@ -299,9 +299,75 @@ pub fn plain_structure() -> Vec<u16> {
     one_thread(&structure(999, |_| (4, 2)))
 }
 
-/// The longest text of a program: a structure of the largest constructors.
-pub fn long_structure() -> Vec<u16> {
-    one_thread(&structure(1022, |i| (4, 60_000 + i)))
+/// The longest text of a program: a structure of so many large constructors.
+pub fn long_structure(k: u16) -> Vec<u16> {
+    one_thread(&structure(k, |i| (4, 60_000 + i % 5_000)))
+}
+
+/// `((n (g (u b0 c1) b0)))`, 8 nodes.
+pub fn tiny() -> Vec<u16> {
+    one_thread(&[(8, 0), (9, 0), (10, 0), (2, 0), (4, 1), (2, 0)])
+}
+
+/// A run of the small size, and one of the same kind with about eight times the nodes.
+pub struct Growing {
+    pub name: &'static str,
+    pub small: OwnTable,
+    pub large: OwnTable,
+    pub most: u32,
+}
+
+pub fn growing() -> Vec<Growing> {
+    let pair = |name, small, large, most| Growing {
+        name,
+        small: with_column(small),
+        large: with_column(large),
+        most,
+    };
+    vec![
+        pair(
+            "1,022 and 8,190 guards, nested on the right",
+            nested_guards(1022),
+            nested_guards(8190),
+            10_000,
+        ),
+        pair(
+            "two equal structures of 1,000 and 8,000 nodes unified",
+            equal_structures(499),
+            equal_structures(3999),
+            1,
+        ),
+        pair(
+            "a structure of 1,000 and 8,000 nodes against one of variables",
+            variable_structure(499),
+            variable_structure(3999),
+            1,
+        ),
+        pair(
+            "a doubling unifier, 255 and 2,040 levels",
+            doubling(255),
+            doubling(2040),
+            1,
+        ),
+        pair(
+            "a chain of 499 and 3,999 variables, the last first",
+            chain(499),
+            chain(3999),
+            1,
+        ),
+        pair(
+            "two equal nests of 339 and 2,729 closures: nothing to do",
+            equal_nests(339),
+            equal_nests(2729),
+            1,
+        ),
+        pair(
+            "100 new variables beside 700 and 5,600 shuffled ones",
+            new_beside(700, 500),
+            new_beside(5600, 4000),
+            100,
+        ),
+    ]
 }
 
 /// `(a (a (a c3 c6001) c5001) c101)`, so many times.

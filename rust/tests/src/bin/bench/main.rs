@@ -1,15 +1,19 @@
-//! The benchmark: the library against the independent evaluator and against the floor of copying the table once a step.
+//! The benchmark: the library against the independent evaluator and against the floor of copying the table once a step, with the small calls;
+//! and the large calls against the small ones.
 //!
-//! `bench FOLDER` writes FOLDER/SPEED.md's table between its two marks and FOLDER/speed.svg; without a folder it prints the table. Both sides
+//! `bench FOLDER` writes FOLDER/SPEED.md's tables between its two marks and FOLDER/speed.svg; without a folder it prints the tables. Both sides
 //! are release builds in one process on the same inputs; before each call the table is filled anew and the work table cleared, both with their
-//! columns, outside the time. Each time is the least of several rounds. tools/bench builds and runs it.
+//! columns, outside the time. Each time is the least of several rounds; of a call of 2 ms and more this thread's own share of the time counts.
+//! tools/bench builds and runs it.
 
 mod inputs;
+mod sizes;
+mod times;
 
 use inputs::{cases, long_structure, placements, plain_structure, with_column, Case};
-use mespindro::Standing;
+use mespindro::{small, Standing};
 use mespindro_tests::evaluator::table::{read_table, OwnTable};
-use mespindro_tests::evaluator::{self, Lengths, TEXT};
+use mespindro_tests::evaluator::{self, Lengths, Size};
 use mespindro_tests::on_big_stack;
 use mespindro_tests::progress::Progress;
 use std::cell::RefCell;
@@ -17,7 +21,16 @@ use std::fmt::Write;
 use std::hint::black_box;
 use std::path::Path;
 use std::process::Command;
-use std::time::{Duration, Instant};
+use std::time::Duration;
+use times::{least, ratio, thousands, time};
+
+/// The size of the rows against the evaluator: that of before there were two, so that they can be compared with older ones.
+const SIZE: Size = Size::SMALL;
+
+/// What is lent for them.
+fn lengths() -> Lengths {
+    Lengths::for_nodes(SIZE.nodes)
+}
 
 /// What is found of one case: times of the whole call.
 struct Row {
@@ -38,9 +51,10 @@ impl Row {
 
 fn main() {
     let folder = std::env::args().nth(1);
-    let rows = on_big_stack(measure_all);
+    let (rows, sizes) = on_big_stack(measure_all);
     let prolog = prolog_times();
-    let text = report(&rows, &prolog);
+    let mut text = report(&rows, &prolog);
+    sizes::report(&sizes, &mut text);
     match folder {
         None => print!("{text}"),
         Some(folder) => store(Path::new(&folder), &text, &chart(&rows)),
@@ -57,7 +71,7 @@ const OTHERS: [Other; 4] = [
     ("placements by standing and thread", reading_out),
 ];
 
-fn measure_all() -> Vec<Row> {
+fn measure_all() -> (Vec<Row>, sizes::Sizes) {
     let cases = cases();
     let all = cases.len() + OTHERS.len();
     let mut progress = Progress::on_terminal();
@@ -72,26 +86,11 @@ fn measure_all() -> Vec<Row> {
     for (name, measure) in OTHERS {
         next(name, &measure);
     }
-    rows
+    let sizes = sizes::measure(&cases, |name| progress.show(&format!("both sizes: {name}")));
+    (rows, sizes)
 }
 
 // ---- The times.
-
-/// The least time of a call, over rounds for about a second: other work of the machine makes single ones longer.
-fn least(mut prepare: impl FnMut(), mut call: impl FnMut(&mut dyn FnMut())) -> Duration {
-    let begin = Instant::now();
-    let mut best = Duration::MAX;
-    let mut rounds = 0;
-    while rounds < 5 || begin.elapsed() < Duration::from_secs(1) {
-        prepare();
-        let mut took = Duration::ZERO;
-        let start = Instant::now();
-        call(&mut || took = start.elapsed());
-        best = best.min(took);
-        rounds += 1;
-    }
-    best
-}
 
 fn measure(case: &Case) -> Row {
     let nodes = case.table.nodes();
@@ -108,7 +107,7 @@ fn measure(case: &Case) -> Row {
 }
 
 fn library_run(case: &Case) -> (Duration, u32) {
-    let lent = || RefCell::new(OwnTable::empty(Lengths::FULL));
+    let lent = || RefCell::new(OwnTable::empty(lengths()));
     let (table, work) = (lent(), lent());
     let mut steps = 0;
     let count = case.table.nodes();
@@ -119,7 +118,7 @@ fn library_run(case: &Case) -> (Duration, u32) {
         },
         |done| {
             let (mut table, mut work) = (table.borrow_mut(), work.borrow_mut());
-            let stop = mespindro::run(table.lent_mut(), count, work.lent_mut(), case.most);
+            let stop = small::run(table.lent_mut(), count, work.lent_mut(), case.most);
             done();
             steps = stop.expect("the case runs").steps;
         },
@@ -139,13 +138,13 @@ fn fill(memory: &mut OwnTable, program: Option<&OwnTable>) {
 
 /// The evaluator's whole call: it reads the table into a tree, runs it and writes the end's table and column.
 fn evaluator_run(case: &Case) -> Duration {
-    let mut table = OwnTable::empty(Lengths::FULL);
+    let mut table = OwnTable::empty(lengths());
     fill(&mut table, Some(&case.table));
     let count = case.table.nodes();
     least(
         || {},
         |done| {
-            let end = evaluator::run(table.lent(), count, Lengths::FULL, case.most);
+            let end = evaluator::run(SIZE, table.lent(), count, lengths(), case.most);
             done();
             black_box(end.expect("small enough to copy").expect("the case runs"));
         },
@@ -170,18 +169,18 @@ fn copy_floor(nodes: usize) -> Duration {
 }
 
 fn long_program() -> (Vec<u8>, OwnTable) {
-    let table = with_column(long_structure());
-    let program = read_table(table.lent(), table.nodes()).expect("a program");
+    let table = with_column(long_structure(1022));
+    let program = read_table(SIZE, table.lent(), table.nodes()).expect("a program");
     (evaluator::text::write_text(&program), table)
 }
 
 fn reading() -> Row {
     let (text, table) = long_program();
-    let mut out = OwnTable::empty(Lengths::FULL);
+    let mut out = OwnTable::empty(lengths());
     let library = least(
         || {},
         |done| {
-            let read = mespindro::read(&text, out.lent_mut());
+            let read = small::read(&text, out.lent_mut());
             done();
             read.expect("the text is read");
         },
@@ -189,7 +188,7 @@ fn reading() -> Row {
     let evaluator = least(
         || {},
         |done| {
-            let read = evaluator::read(&text, Lengths::FULL);
+            let read = evaluator::read(SIZE, &text, lengths());
             done();
             black_box(read.expect("the text is read"));
         },
@@ -199,11 +198,11 @@ fn reading() -> Row {
 
 fn writing() -> Row {
     let (text, table) = long_program();
-    let mut out = vec![0u8; TEXT];
+    let mut out = vec![0u8; SIZE.text()];
     let library = least(
         || {},
         |done| {
-            let written = mespindro::write(table.lent(), table.nodes(), &mut out);
+            let written = small::write(table.lent(), table.nodes(), &mut out);
             done();
             written.expect("the table is written");
         },
@@ -211,7 +210,7 @@ fn writing() -> Row {
     let evaluator = least(
         || {},
         |done| {
-            let written = evaluator::write(table.lent(), table.nodes(), TEXT);
+            let written = evaluator::write(SIZE, table.lent(), table.nodes(), SIZE.text());
             done();
             black_box(written.expect("the table is written"));
         },
@@ -226,7 +225,7 @@ fn standing() -> Row {
     let library = least(
         || {},
         |done| {
-            let told = mespindro::standing(table.lent(), count, 0);
+            let told = small::standing(table.lent(), count, 0);
             done();
             assert_eq!(told, Ok(Standing::Answer));
         },
@@ -234,7 +233,7 @@ fn standing() -> Row {
     let evaluator = least(
         || {},
         |done| {
-            let told = evaluator::standing(table.lent(), count, 0);
+            let told = evaluator::standing(SIZE, table.lent(), count, 0);
             done();
             assert_eq!(told, Ok(Standing::Answer));
         },
@@ -257,8 +256,8 @@ fn reading_out() -> Row {
         || {},
         |done| {
             for k in 0..255 {
-                black_box(mespindro::standing(table.lent(), count, k).expect("a thread"));
-                black_box(mespindro::thread(table.lent(), count, k));
+                black_box(small::standing(table.lent(), count, k).expect("a thread"));
+                black_box(small::thread(table.lent(), count, k));
             }
             done();
         },
@@ -267,8 +266,8 @@ fn reading_out() -> Row {
         || {},
         |done| {
             for k in 0..255 {
-                black_box(evaluator::standing(table.lent(), count, k).expect("a thread"));
-                black_box(evaluator::thread(table.lent(), count, k).expect("a thread"));
+                black_box(evaluator::standing(SIZE, table.lent(), count, k).expect("a thread"));
+                black_box(evaluator::thread(SIZE, table.lent(), count, k).expect("a thread"));
             }
             done();
         },
@@ -309,31 +308,10 @@ fn prolog_times() -> Option<(f64, f64)> {
 
 // ---- The report.
 
-fn thousands(n: usize) -> String {
-    if n < 1000 {
-        n.to_string()
-    } else {
-        format!("{},{:03}", n / 1000, n % 1000)
-    }
-}
-
-fn time(d: Duration) -> String {
-    let us = d.as_secs_f64() * 1e6;
-    if us < 1000.0 {
-        format!("{us:.1} µs")
-    } else {
-        format!("{:.2} ms", us / 1000.0)
-    }
-}
-
-fn ratio(a: Duration, b: Duration) -> f64 {
-    a.as_secs_f64() / b.as_secs_f64()
-}
-
 fn report(rows: &[Row], prolog: &Option<(f64, f64)>) -> String {
     let mut out = String::new();
     let machine = std::env::consts::ARCH;
-    writeln!(out, "Measured on {machine}, one run of `tools/bench`.\n").unwrap();
+    writeln!(out, "Measured on {machine}, one run of `tools/bench`, with the small calls (2,048 nodes); both sizes below.\n").unwrap();
     writeln!(
         out,
         "| input | nodes | steps | library | evaluator | times faster | against copying |"
