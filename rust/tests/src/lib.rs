@@ -1,5 +1,6 @@
 //! The tests of Mespindro: an independent evaluator, and what compares the proved library with it.
 
+pub mod baseline;
 pub mod calls;
 pub mod compare;
 pub mod damage;
