@@ -386,7 +386,7 @@ fn same_lent_tables() {
     let mut met: BTreeMap<Met, usize> = BTreeMap::new();
     on_big_stack(|| {
         let mut random = Random::new(60);
-        for _ in 0..1_500 {
+        for _ in 0..5_000 {
             let size = random.pick(&Size::BOTH);
             let calls = random_calls(size, &mut random);
             let on_tables = calls.iter().filter(|c| !matches!(c, Call::Read { .. }));
