@@ -1,0 +1,328 @@
+//! The library against the baseline, a plain program that copies each value as a variable takes it: long structures, runs of many unifications,
+//! and towers whose unifier doubles at each variable.
+//!
+//! Two measures: the whole call, with the check of its table on both sides; and, of a single step, the step alone, which is the whole call less
+//! one on the same nodes that has nothing to do.
+
+use crate::copying_inputs::{inputs, Family, Input};
+use crate::fill;
+use crate::times::{fine_time, ratio, steady_least, taken, thousands};
+use mespindro::{Reason, Stop};
+use mespindro_tests::baseline::Baseline;
+use mespindro_tests::evaluator::table::OwnTable;
+use mespindro_tests::evaluator::Lengths;
+use mespindro_tests::library::Library;
+use std::fmt::Write;
+use std::time::Duration;
+
+/// What is found of one input.
+pub struct Row {
+    pub name: String,
+    pub family: Family,
+    nodes: usize,
+    steps: u32,
+    pub whole: Times,
+    /// Of a single step.
+    pub alone: Option<Times>,
+}
+
+/// The times of both sides; of the library alone where the other has none.
+pub struct Times {
+    pub library: Duration,
+    pub baseline: Option<Duration>,
+}
+
+impl Times {
+    /// How many times the library is faster; none where one of them is lost in the clock.
+    pub fn faster(&self) -> Option<f64> {
+        let baseline = self.baseline?;
+        let told = !self.library.is_zero() && !baseline.is_zero();
+        told.then(|| ratio(baseline, self.library))
+    }
+}
+
+pub fn measure(mut progress: impl FnMut(&str)) -> Vec<Row> {
+    let inputs = inputs();
+    let mut rows = Vec::new();
+    for input in &inputs {
+        progress(&input.name);
+        rows.push(row(input));
+    }
+    rows
+}
+
+/// Calls the library so often on the input of that name and does nothing else; says whether there is one.
+pub fn repeat(name: &str, times: usize) -> bool {
+    let inputs = inputs();
+    let input = inputs.iter().find(|input| input.name == name);
+    if let Some(input) = input {
+        let mut stand = Stand::new(input);
+        for _ in 0..times {
+            stand.fill(Task::CALL, 1);
+            stand.calls(Task::CALL, 1);
+        }
+    }
+    input.is_some()
+}
+
+pub fn names() -> Vec<String> {
+    inputs().into_iter().map(|input| input.name).collect()
+}
+
+// ---- The times.
+
+#[derive(Clone, Copy, PartialEq, Eq)]
+enum Side {
+    Library,
+    Baseline,
+}
+
+/// One of the calls that are timed by turns: on the input, or on the same nodes with nothing to do.
+#[derive(Clone, Copy, PartialEq, Eq)]
+struct Task {
+    side: Side,
+    idle: bool,
+}
+
+impl Task {
+    const CALL: Task = Task {
+        side: Side::Library,
+        idle: false,
+    };
+}
+
+/// Shorter calls are timed so many at once, each on memory of its own: the clock's own time would show.
+const SHORT: Duration = Duration::from_micros(5);
+const AT_ONCE: usize = 16;
+
+/// An input with all that its calls need.
+struct Stand<'i> {
+    input: &'i Input,
+    idle: OwnTable,
+    baseline: Baseline,
+    /// Tables and work tables.
+    lent: Vec<[OwnTable; 2]>,
+}
+
+impl Stand<'_> {
+    fn new(input: &Input) -> Stand<'_> {
+        let lengths = Lengths::for_nodes(input.size.nodes);
+        let lent = || [OwnTable::empty(lengths), OwnTable::empty(lengths)];
+        Stand {
+            input,
+            idle: input.idle(),
+            baseline: Baseline::new(input.size),
+            lent: (0..AT_ONCE).map(|_| lent()).collect(),
+        }
+    }
+
+    fn fill(&mut self, task: Task, calls: usize) {
+        let program = if task.idle {
+            &self.idle
+        } else {
+            &self.input.program
+        };
+        for [table, work] in &mut self.lent[..calls] {
+            fill(table, Some(program));
+            fill(work, None);
+        }
+    }
+
+    /// So many calls, each on its own memory; what the last one tells.
+    fn calls(&mut self, task: Task, calls: usize) -> Stop {
+        let (count, most) = (self.input.program.nodes(), self.input.most());
+        let run = Library::at(self.input.size).run;
+        let mut stop = None;
+        for [table, work] in &mut self.lent[..calls] {
+            stop = Some(match task.side {
+                Side::Library => run(table.lent_mut(), count, work.lent_mut(), most),
+                Side::Baseline => self
+                    .baseline
+                    .run(&mut table.numbers, count, &mut work.numbers, most)
+                    .expect("small enough to copy"),
+            });
+        }
+        stop.expect("at least one call").expect("the input runs")
+    }
+
+    /// The time of one call, by so many at once.
+    fn round(&mut self, task: Task, calls: usize) -> Duration {
+        self.fill(task, calls);
+        taken(|| {
+            self.calls(task, calls);
+        }) / calls as u32
+    }
+
+    /// The end of one call, with all that it leaves in its table.
+    fn end(&mut self, task: Task) -> (Stop, Vec<u16>) {
+        self.fill(task, 1);
+        let stop = self.calls(task, 1);
+        (stop, self.lent[0][0].numbers.clone())
+    }
+
+    /// How many calls of a side are timed at once.
+    fn at_once(&mut self, side: Side) -> usize {
+        let task = Task { side, idle: false };
+        let first = (0..5).map(|_| self.round(task, 1)).min();
+        match first.expect("some rounds") {
+            time if time < SHORT => AT_ONCE,
+            _ => 1,
+        }
+    }
+}
+
+fn row(input: &Input) -> Row {
+    let mut stand = Stand::new(input);
+    let tasks = tasks(input);
+    let steps = compared(&mut stand, &tasks);
+    let times = times(&mut stand, &tasks);
+    let time = |side, idle| {
+        let place = tasks.iter().position(|t| *t == Task { side, idle });
+        place.map(|place| times[place])
+    };
+    let step = |side| Some(time(side, false)?.saturating_sub(time(side, true)?));
+    Row {
+        name: input.name.clone(),
+        family: input.family,
+        nodes: input.program.nodes(),
+        steps,
+        whole: Times {
+            library: time(Side::Library, false).expect("of each input"),
+            baseline: time(Side::Baseline, false),
+        },
+        alone: step(Side::Library).map(|library| Times {
+            library,
+            baseline: step(Side::Baseline),
+        }),
+    }
+}
+
+/// What is called on an input: by both sides, unless it is for one alone, and idle too where it is one step.
+fn tasks(input: &Input) -> Vec<Task> {
+    let mut tasks = Vec::new();
+    for side in [Side::Library, Side::Baseline] {
+        if side == Side::Library || input.family != Family::Alone {
+            tasks.push(Task { side, idle: false });
+            tasks.extend(input.single().then_some(Task { side, idle: true }));
+        }
+    }
+    tasks
+}
+
+/// The steps of the input, after all have come to the same end, and the idle ones to none.
+fn compared(stand: &mut Stand, tasks: &[Task]) -> u32 {
+    let name = &stand.input.name;
+    let (stop, end) = stand.end(Task::CALL);
+    for &task in tasks {
+        let (told, left) = stand.end(task);
+        if task.idle {
+            assert_eq!((told.steps, told.reason), (0, Reason::Ended), "{name}");
+        } else {
+            assert!(told == stop && left == end, "{name}: {told:?}, {stop:?}");
+        }
+    }
+    stop.steps
+}
+
+fn times(stand: &mut Stand, tasks: &[Task]) -> Vec<Duration> {
+    let mut ways = Vec::new();
+    for &task in tasks {
+        ways.push((task, stand.at_once(task.side)));
+    }
+    steady_least(&ways, |(task, calls)| stand.round(task, calls))
+}
+
+// ---- The report.
+
+pub fn report(rows: &[Row], out: &mut String) {
+    out.push_str("\nThe library against the baseline that copies:\n\n");
+    out.push_str("| input | nodes | steps | library | baseline | baseline / library | step alone: library | baseline | baseline / library |\n|---|---|---|---|---|---|---|---|---|\n");
+    for row in rows {
+        writeln!(
+            out,
+            "| {} | {} | {} | {} | {} |",
+            row.name,
+            thousands(row.nodes),
+            thousands(row.steps as usize),
+            cells(Some(&row.whole)),
+            cells(row.alone.as_ref()),
+        )
+        .unwrap();
+    }
+    writeln!(out, "\n{}", summary(rows)).unwrap();
+}
+
+/// Library, baseline and their ratio.
+fn cells(times: Option<&Times>) -> String {
+    let or_none = |cell: Option<String>| cell.unwrap_or("-".to_string());
+    let library = times.map(|times| fine_time(times.library));
+    let baseline = times.and_then(|times| times.baseline).map(fine_time);
+    let faster = times.and_then(Times::faster).map(times_faster);
+    [library, baseline, faster].map(or_none).join(" | ")
+}
+
+pub fn times_faster(ratio: f64) -> String {
+    match ratio {
+        ratio if ratio < 10.0 => format!("{ratio:.2}"),
+        ratio if ratio < 100.0 => format!("{ratio:.1}"),
+        ratio => thousands(ratio.round() as usize),
+    }
+}
+
+/// What is asked of the rows, from their numbers.
+fn summary(rows: &[Row]) -> String {
+    let whole = |row: &Row| row.whole.faster();
+    let alone = |row: &Row| row.alone.as_ref()?.faster();
+    let runs = least(rows, Family::Run, whole);
+    format!(
+        "Baseline / library is at least {} over long structures by whole calls and {} by the step alone, and at least {runs} over whole runs. {} {}",
+        least(rows, Family::Long, whole),
+        least(rows, Family::Long, alone),
+        towers(rows),
+        growth(rows),
+    )
+}
+
+/// The least ratio of a family, and where it is.
+fn least(rows: &[Row], family: Family, of: impl Fn(&Row) -> Option<f64>) -> String {
+    let rows = rows.iter().filter(|row| row.family == family);
+    let ratios = rows.filter_map(|row| Some((of(row)?, &row.name)));
+    match ratios.min_by(|a, b| a.0.total_cmp(&b.0)) {
+        Some((ratio, name)) => format!("{} ({name})", times_faster(ratio)),
+        None => "-".to_string(),
+    }
+}
+
+fn tower(rows: &[Row], n: u16) -> &Row {
+    let found = rows.iter().find(|row| row.family == Family::Doubling(n));
+    found.expect("a tower of that height")
+}
+
+fn towers(rows: &[Row]) -> String {
+    let at = |n| {
+        let times = |times: &Times| times.faster().map_or("-".to_string(), times_faster);
+        let row = tower(rows, n);
+        let alone = row.alone.as_ref().map_or("-".to_string(), times);
+        format!(
+            "{} at D({n}) ({alone} by the step alone)",
+            times(&row.whole)
+        )
+    };
+    format!("On towers it is {}, {} and {}.", at(10), at(14), at(18))
+}
+
+/// How the times of the whole calls grow with each level.
+fn growth(rows: &[Row]) -> String {
+    let (low, high) = (8, 18);
+    let levels = f64::from(high - low);
+    let [first, last] = [low, high].map(|n| &tower(rows, n).whole);
+    let factor = |first, last| ratio(last, first).powf(1.0 / levels);
+    let more = last.library.saturating_sub(first.library);
+    let copying = first.baseline.zip(last.baseline);
+    format!(
+        "From D({low}) to D({high}) the library's time grows by {:.2} µs a level, a factor of {:.2}, and the baseline's by a factor of {:.2} a level.",
+        more.as_secs_f64() * 1e6 / levels,
+        factor(first.library, last.library),
+        copying.map_or(f64::NAN, |(first, last)| factor(first, last)),
+    )
+}
