@@ -5,13 +5,11 @@
 //! one on the same nodes that has nothing to do.
 
 use crate::copying_inputs::{inputs, Family, Input};
-use crate::fill;
 use crate::times::{fine_time, ratio, steady_least, taken, thousands};
-use mespindro::{Reason, Stop};
+use crate::{fill, lengths, SIZE};
+use mespindro::{small, Reason, Stop};
 use mespindro_tests::baseline::Baseline;
 use mespindro_tests::evaluator::table::OwnTable;
-use mespindro_tests::evaluator::Lengths;
-use mespindro_tests::library::Library;
 use std::fmt::Write;
 use std::time::Duration;
 
@@ -21,9 +19,10 @@ pub struct Row {
     pub family: Family,
     nodes: usize,
     steps: u32,
+    /// Of the whole call.
     pub whole: Times,
-    /// Of a single step.
-    pub alone: Option<Times>,
+    /// Of the step alone, where it is one.
+    pub step: Option<Times>,
 }
 
 /// The times of both sides; of the library alone where the other has none.
@@ -106,12 +105,11 @@ struct Stand<'i> {
 
 impl Stand<'_> {
     fn new(input: &Input) -> Stand<'_> {
-        let lengths = Lengths::for_nodes(input.size.nodes);
-        let lent = || [OwnTable::empty(lengths), OwnTable::empty(lengths)];
+        let lent = || [OwnTable::empty(lengths()), OwnTable::empty(lengths())];
         Stand {
             input,
             idle: input.idle(),
-            baseline: Baseline::new(input.size),
+            baseline: Baseline::new(SIZE),
             lent: (0..AT_ONCE).map(|_| lent()).collect(),
         }
     }
@@ -131,11 +129,10 @@ impl Stand<'_> {
     /// So many calls, each on its own memory; what the last one tells.
     fn calls(&mut self, task: Task, calls: usize) -> Stop {
         let (count, most) = (self.input.program.nodes(), self.input.most());
-        let run = Library::at(self.input.size).run;
         let mut stop = None;
         for [table, work] in &mut self.lent[..calls] {
             stop = Some(match task.side {
-                Side::Library => run(table.lent_mut(), count, work.lent_mut(), most),
+                Side::Library => small::run(table.lent_mut(), count, work.lent_mut(), most),
                 Side::Baseline => self
                     .baseline
                     .run(&mut table.numbers, count, &mut work.numbers, most)
@@ -190,7 +187,7 @@ fn row(input: &Input) -> Row {
             library: time(Side::Library, false).expect("of each input"),
             baseline: time(Side::Baseline, false),
         },
-        alone: step(Side::Library).map(|library| Times {
+        step: step(Side::Library).map(|library| Times {
             library,
             baseline: step(Side::Baseline),
         }),
@@ -213,6 +210,8 @@ fn tasks(input: &Input) -> Vec<Task> {
 fn compared(stand: &mut Stand, tasks: &[Task]) -> u32 {
     let name = &stand.input.name;
     let (stop, end) = stand.end(Task::CALL);
+    // a single step is made, and a run is not cut short by room
+    assert!(stop.steps == 1 || stop.reason == Reason::Ended, "{name}");
     for &task in tasks {
         let (told, left) = stand.end(task);
         if task.idle {
@@ -225,9 +224,14 @@ fn compared(stand: &mut Stand, tasks: &[Task]) -> u32 {
 }
 
 fn times(stand: &mut Stand, tasks: &[Task]) -> Vec<Duration> {
-    let mut ways = Vec::new();
+    let mut ways: Vec<(Task, usize)> = Vec::new();
     for &task in tasks {
-        ways.push((task, stand.at_once(task.side)));
+        // both of a side alike, since their difference is taken
+        let calls = match ways.last() {
+            Some((before, calls)) if before.side == task.side => *calls,
+            _ => stand.at_once(task.side),
+        };
+        ways.push((task, calls));
     }
     steady_least(&ways, |(task, calls)| stand.round(task, calls))
 }
@@ -235,7 +239,7 @@ fn times(stand: &mut Stand, tasks: &[Task]) -> Vec<Duration> {
 // ---- The report.
 
 pub fn report(rows: &[Row], out: &mut String) {
-    out.push_str("\nThe library against the baseline that copies:\n\n");
+    out.push_str("\nThe library against the baseline that copies, of which the section under the tables tells:\n\n");
     out.push_str("| input | nodes | steps | library | baseline | baseline / library | step alone: library | baseline | baseline / library |\n|---|---|---|---|---|---|---|---|---|\n");
     for row in rows {
         writeln!(
@@ -245,20 +249,27 @@ pub fn report(rows: &[Row], out: &mut String) {
             thousands(row.nodes),
             thousands(row.steps as usize),
             cells(Some(&row.whole)),
-            cells(row.alone.as_ref()),
+            cells(row.step.as_ref()),
         )
         .unwrap();
     }
     writeln!(out, "\n{}", summary(rows)).unwrap();
 }
 
+/// What stands where nothing was measured.
+const NONE: &str = "-";
+
 /// Library, baseline and their ratio.
 fn cells(times: Option<&Times>) -> String {
-    let or_none = |cell: Option<String>| cell.unwrap_or("-".to_string());
-    let library = times.map(|times| fine_time(times.library));
-    let baseline = times.and_then(|times| times.baseline).map(fine_time);
-    let faster = times.and_then(Times::faster).map(times_faster);
-    [library, baseline, faster].map(or_none).join(" | ")
+    let cell = |time: Option<Duration>| time.map_or(NONE.to_string(), fine_time);
+    let library = cell(times.map(|times| times.library));
+    let baseline = cell(times.and_then(|times| times.baseline));
+    format!("{library} | {baseline} | {}", faster_cell(times))
+}
+
+fn faster_cell(times: Option<&Times>) -> String {
+    let faster = times.and_then(Times::faster);
+    faster.map_or(NONE.to_string(), times_faster)
 }
 
 pub fn times_faster(ratio: f64) -> String {
@@ -272,24 +283,24 @@ pub fn times_faster(ratio: f64) -> String {
 /// What is asked of the rows, from their numbers.
 fn summary(rows: &[Row]) -> String {
     let whole = |row: &Row| row.whole.faster();
-    let alone = |row: &Row| row.alone.as_ref()?.faster();
-    let runs = least(rows, Family::Run, whole);
+    let step = |row: &Row| row.step.as_ref()?.faster();
     format!(
-        "Baseline / library is at least {} over long structures by whole calls and {} by the step alone, and at least {runs} over whole runs. {} {}",
-        least(rows, Family::Long, whole),
-        least(rows, Family::Long, alone),
+        "Baseline / library is at least {} over long structures by whole calls and {} by the step alone, and at least {} over whole runs. {} {}",
+        least_ratio(rows, Family::Long, whole),
+        least_ratio(rows, Family::Long, step),
+        least_ratio(rows, Family::Run, whole),
         towers(rows),
         growth(rows),
     )
 }
 
-/// The least ratio of a family, and where it is.
-fn least(rows: &[Row], family: Family, of: impl Fn(&Row) -> Option<f64>) -> String {
+/// The least of a family, and where it is.
+fn least_ratio(rows: &[Row], family: Family, of: impl Fn(&Row) -> Option<f64>) -> String {
     let rows = rows.iter().filter(|row| row.family == family);
     let ratios = rows.filter_map(|row| Some((of(row)?, &row.name)));
     match ratios.min_by(|a, b| a.0.total_cmp(&b.0)) {
         Some((ratio, name)) => format!("{} ({name})", times_faster(ratio)),
-        None => "-".to_string(),
+        None => NONE.to_string(),
     }
 }
 
@@ -300,13 +311,9 @@ fn tower(rows: &[Row], n: u16) -> &Row {
 
 fn towers(rows: &[Row]) -> String {
     let at = |n| {
-        let times = |times: &Times| times.faster().map_or("-".to_string(), times_faster);
         let row = tower(rows, n);
-        let alone = row.alone.as_ref().map_or("-".to_string(), times);
-        format!(
-            "{} at D({n}) ({alone} by the step alone)",
-            times(&row.whole)
-        )
+        let [whole, step] = [Some(&row.whole), row.step.as_ref()].map(faster_cell);
+        format!("{whole} at D({n}) ({step} by the step alone)")
     };
     format!("On towers it is {}, {} and {}.", at(10), at(14), at(18))
 }
@@ -320,7 +327,7 @@ fn growth(rows: &[Row]) -> String {
     let more = last.library.saturating_sub(first.library);
     let copying = first.baseline.zip(last.baseline);
     format!(
-        "From D({low}) to D({high}) the library's time grows by {:.2} µs a level, a factor of {:.2}, and the baseline's by a factor of {:.2} a level.",
+        "From D({low}) to D({high}) the library's time grows by {:.2} µs a level, a factor of {:.2}, and the baseline's by a factor of {:.2}.",
         more.as_secs_f64() * 1e6 / levels,
         factor(first.library, last.library),
         copying.map_or(f64::NAN, |(first, last)| factor(first, last)),

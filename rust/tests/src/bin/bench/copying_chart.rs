@@ -176,7 +176,7 @@ fn ratios(rows: &[&Row], bottom: f64, picture: &mut Picture) {
 
 /// By the whole call and by the step alone.
 fn both(row: &Row) -> [Option<f64>; 2] {
-    [Some(&row.whole), row.alone.as_ref()].map(|times| times.and_then(Times::faster))
+    [Some(&row.whole), row.step.as_ref()].map(|times| times.and_then(Times::faster))
 }
 
 fn bounds(numbers: impl Iterator<Item = f64>) -> [f64; 2] {

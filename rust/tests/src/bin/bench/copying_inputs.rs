@@ -4,8 +4,8 @@ use crate::inputs::{
     alternatives, applied, chain, doubling, equal_structures, goal, one_thread, rules, structure,
     variable_structure, with_column, Node,
 };
+use crate::SIZE;
 use mespindro_tests::evaluator::table::OwnTable;
-use mespindro_tests::evaluator::Size;
 
 /// What a row is there for.
 #[derive(Clone, Copy, PartialEq, Eq)]
@@ -20,33 +20,21 @@ pub enum Family {
     Alone,
 }
 
-/// A run that is measured.
+/// A run that is measured, with the small calls.
 pub struct Input {
     pub name: String,
     pub family: Family,
-    /// Of the calls.
-    pub size: Size,
     pub program: OwnTable,
 }
 
 impl Input {
     fn new(name: &str, family: Family, numbers: Vec<u16>) -> Input {
         let program = with_column(numbers);
-        // what the small calls take is given to them
-        let small = program.nodes() <= Size::SMALL.nodes;
+        assert!(program.nodes() <= SIZE.nodes, "{name}: for the small calls");
         Input {
             name: name.to_string(),
             family,
-            size: if small { Size::SMALL } else { Size::LARGE },
             program,
-        }
-    }
-
-    /// For the large calls, because of what it becomes or of what it is.
-    fn large(name: &str, family: Family, numbers: Vec<u16>) -> Input {
-        Input {
-            size: Size::LARGE,
-            ..Input::new(&format!("{name} (large calls)"), family, numbers)
         }
     }
 
@@ -126,23 +114,17 @@ fn so_often(times: u16) -> String {
     }
 }
 
-fn runs() -> Vec<Input> {
+fn runs() -> [Input; 6] {
     let run = |name: &str, numbers| Input::new(name, Family::Run, numbers);
-    let large = |name: &str, numbers| Input::large(name, Family::Run, numbers);
-    vec![
+    [
         run("48 ports (rules/leaf-48)", rules("leaf-48")),
         run(
-            "40 alternatives, one after the other, over a list of 20 placements",
+            "40 alternatives over a list of 20 placements, which is handed on",
             handed_list(40, 20),
         ),
         run("6 alternatives over a list of 20 placements", listed(6, 20)),
-        large(
-            "40 alternatives over a list of 20 placements",
-            listed(40, 20),
-        ),
         run("12 goals over structures of 40 arguments", goals(12, 40)),
         run("20 goals over structures of 24 arguments", goals(20, 24)),
-        large("20 goals over structures of 40 arguments", goals(20, 40)),
         run(
             "340 alternatives, each with a variable of its own",
             alternatives(340),
@@ -150,12 +132,10 @@ fn runs() -> Vec<Input> {
     ]
 }
 
-/// The levels of the towers that both sides take.
-pub const LEVELS: [u16; 8] = [4, 6, 8, 10, 12, 14, 16, 18];
-
-fn towers() -> Vec<Input> {
+/// The towers that both sides take.
+fn towers() -> [Input; 8] {
     let tower = |n| Input::new(&format!("D({n})"), Family::Doubling(n), doubling(n));
-    LEVELS.map(tower).into()
+    [4, 6, 8, 10, 12, 14, 16, 18].map(tower)
 }
 
 fn alone() -> [Input; 2] {
@@ -271,8 +251,8 @@ fn listed(m: u16, n: u16) -> Vec<u16> {
     one_thread(&nodes)
 }
 
-/// The same within 2,048 nodes: the n variables are made once, and the list and the pattern are handed on from choice to choice, each
-/// `(a (a (l ((l ((g (u b1 b0) T) REST)))) LIST) PATTERN)`, where REST is the next choice, with b1 and b0 for both.
+/// The same with more alternatives than hold a list each: the n variables are made once, and the list and the pattern are handed on from choice
+/// to choice, `(a (a (l ((l ((g (u b1 b0) T) REST)))) LIST) PATTERN)`, where REST is the next one, with b1 and b0 for both.
 fn handed_list(m: u16, n: u16) -> Vec<u16> {
     let mut nodes = vec![(8, 0); n as usize];
     for number in 0..m {
