@@ -5,9 +5,10 @@
 //! one on the same nodes that has nothing to do.
 
 use crate::copying_inputs::{inputs, Family, Input};
+use crate::places::{Memory, PLACES};
 use crate::times::{fine_time, ratio, steady_least, taken, thousands};
-use crate::{fill, lengths, SIZE};
-use mespindro::{small, Reason, Stop};
+use crate::SIZE;
+use mespindro::{small, Reason, Stop, TableMut};
 use mespindro_tests::baseline::Baseline;
 use mespindro_tests::evaluator::table::OwnTable;
 use std::fmt::Write;
@@ -92,51 +93,59 @@ impl Task {
 
 /// Shorter calls are timed so many at once, each on memory of its own: the clock's own time would show.
 const SHORT: Duration = Duration::from_micros(5);
-const AT_ONCE: usize = 16;
+const AT_ONCE: usize = PLACES;
 
 /// An input with all that its calls need.
 struct Stand<'i> {
     input: &'i Input,
     idle: OwnTable,
     baseline: Baseline,
-    /// Tables and work tables.
-    lent: Vec<[OwnTable; 2]>,
+    memory: Memory,
+    /// Where the next round's first call is made.
+    place: usize,
 }
 
 impl Stand<'_> {
     fn new(input: &Input) -> Stand<'_> {
-        let lent = || [OwnTable::empty(lengths()), OwnTable::empty(lengths())];
         Stand {
             input,
             idle: input.idle(),
             baseline: Baseline::new(SIZE),
-            lent: (0..AT_ONCE).map(|_| lent()).collect(),
+            memory: Memory::new(),
+            place: 0,
         }
+    }
+
+    /// The places of so many calls.
+    fn places(&self, calls: usize) -> impl Iterator<Item = usize> {
+        (self.place..self.place + calls).map(|place| place % PLACES)
     }
 
     fn fill(&mut self, task: Task, calls: usize) {
-        let program = if task.idle {
-            &self.idle
-        } else {
-            &self.input.program
-        };
-        for [table, work] in &mut self.lent[..calls] {
-            fill(table, Some(program));
-            fill(work, None);
+        for place in self.places(calls) {
+            let program = match task.idle {
+                true => &self.idle,
+                false => &self.input.program,
+            };
+            self.memory.fill(place, program);
         }
     }
 
-    /// So many calls, each on its own memory; what the last one tells.
+    /// So many calls, each in its own place; what the last one tells.
     fn calls(&mut self, task: Task, calls: usize) -> Stop {
         let (count, most) = (self.input.program.nodes(), self.input.most());
         let mut stop = None;
-        for [table, work] in &mut self.lent[..calls] {
+        for place in self.places(calls) {
+            let [numbers, column, work, work_column] = self.memory.at(place);
             stop = Some(match task.side {
-                Side::Library => small::run(table.lent_mut(), count, work.lent_mut(), most),
-                Side::Baseline => self
-                    .baseline
-                    .run(&mut table.numbers, count, &mut work.numbers, most)
-                    .expect("small enough to copy"),
+                Side::Library => {
+                    let table = TableMut::new(numbers, column);
+                    small::run(table, count, TableMut::new(work, work_column), most)
+                }
+                Side::Baseline => {
+                    let stop = self.baseline.run(numbers, count, work, most);
+                    stop.expect("small enough to copy")
+                }
             });
         }
         stop.expect("at least one call").expect("the input runs")
@@ -154,7 +163,8 @@ impl Stand<'_> {
     fn end(&mut self, task: Task) -> (Stop, Vec<u16>) {
         self.fill(task, 1);
         let stop = self.calls(task, 1);
-        (stop, self.lent[0][0].numbers.clone())
+        let [numbers, ..] = self.memory.at(self.place);
+        (stop, numbers.to_vec())
     }
 
     /// How many calls of a side are timed at once.
@@ -165,6 +175,10 @@ impl Stand<'_> {
             time if time < SHORT => AT_ONCE,
             _ => 1,
         }
+    }
+
+    fn next_place(&mut self) {
+        self.place = (self.place + 1) % PLACES;
     }
 }
 
@@ -233,7 +247,15 @@ fn times(stand: &mut Stand, tasks: &[Task]) -> Vec<Duration> {
         };
         ways.push((task, calls));
     }
-    steady_least(&ways, |(task, calls)| stand.round(task, calls))
+    let mut round = 0;
+    steady_least(&ways, |(task, calls)| {
+        // each way meets the same places
+        if round % ways.len() == 0 {
+            stand.next_place();
+        }
+        round += 1;
+        stand.round(task, calls)
+    })
 }
 
 // ---- The report.

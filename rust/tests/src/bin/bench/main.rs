@@ -12,6 +12,7 @@ mod copying;
 mod copying_chart;
 mod copying_inputs;
 mod inputs;
+mod places;
 mod sizes;
 mod times;
 
