@@ -19,7 +19,8 @@ pub fn random_calls(size: Size, random: &mut Random) -> Vec<Call> {
     if random.one_in(200) {
         return on_program(size, &generate::large_program(size, random), random);
     }
-    match random.below(10) {
+    match random.below(11) {
+        10 => on_program(size, &generate::goals_program(size, random), random),
         0..=3 => on_text(size, &generate::text(size, random)),
         4..=6 => on_program(size, &generate::sound_program(size, random), random),
         7 => on_program(size, &generate::worked_program(size, random), random),

@@ -1,7 +1,9 @@
 //! Each call made in the library and in the evaluator at the same size on the same input, in lent memory with margins: one function a call.
+//! Steps and runs are made by the baseline too, but for those with a wrong column.
 //!
-//! A comparison answers `Err` with what differs, `Ok(None)` where the evaluator cannot tell.
+//! A comparison answers `Err` with what differs; there is no outcome where the evaluator cannot tell.
 
+use crate::beside::{self, Beside, Memory};
 use crate::evaluator::table::OwnTable;
 use crate::evaluator::{self, Lengths, Size};
 use crate::library::Library;
@@ -42,8 +44,15 @@ pub enum Call {
     },
 }
 
-/// What a comparison came to.
+/// What a comparison with the evaluator came to.
 pub type Comparison = Result<Option<Outcome>, String>;
+
+/// What a comparison with both came to.
+#[derive(Clone, Copy, Debug, PartialEq, Eq)]
+pub struct Told {
+    pub outcome: Option<Outcome>,
+    pub baseline: Beside,
+}
 
 /// What both answered.
 #[derive(Clone, Copy, Debug, PartialEq, Eq)]
@@ -53,37 +62,59 @@ pub enum Outcome {
 }
 
 /// Compares one call at a size.
-pub fn compare(size: Size, call: &Call) -> Comparison {
-    match call {
-        Call::Read { text, out } => read(size, text, *out),
-        Call::Write { table, count, out } => write(size, table.lent(), *count, *out),
-        Call::Step { table, count, out } => step(size, table.lent(), *count, *out),
+pub fn compare(size: Size, call: &Call) -> Result<Told, String> {
+    let outcome = match call {
+        Call::Step { table, count, out } => return step(size, table.lent(), *count, *out),
         Call::Run {
             table,
             count,
             work,
             most,
-        } => run(size, table.lent(), *count, *work, *most),
+        } => return run(size, table.lent(), *count, *work, *most),
+        Call::Read { text, out } => read(size, text, *out),
+        Call::Write { table, count, out } => write(size, table.lent(), *count, *out),
         Call::Standing { table, count, k } => standing(size, table.lent(), *count, *k),
         Call::Thread { table, count, k } => thread(size, table.lent(), *count, *k),
-    }
+    };
+    Ok(Told {
+        outcome: outcome?,
+        baseline: Beside::LeftOut,
+    })
 }
 
-/// How many comparisons there were, by what both answered.
+/// How many comparisons there were, by what both answered; and how far the baseline came.
 #[derive(Clone, Debug, Default)]
 pub struct Tally {
     pub accepted: usize,
     pub refused: [usize; 15],
     pub untold: usize,
+    /// Single steps by unif that the baseline made too.
+    pub unif: usize,
+    /// Single steps by fail that it made too.
+    pub fail: usize,
+    /// Steps by either in its runs.
+    pub in_runs: usize,
+    /// Calls with values that are too large for it.
+    pub too_large: usize,
 }
 
 impl Tally {
     /// Compares one call and counts it.
     pub fn compare(&mut self, size: Size, call: &Call) -> Result<(), String> {
-        match compare(size, call)? {
+        let told = compare(size, call)?;
+        match told.outcome {
             Some(Outcome::Accepted) => self.accepted += 1,
             Some(Outcome::Refused(refusal)) => self.refused[usize::from(refusal.number())] += 1,
             None => self.untold += 1,
+        }
+        match (told.baseline, call) {
+            (Beside::LeftOut, _) => {}
+            (Beside::TooLarge, _) => self.too_large += 1,
+            (Beside::Same { unif, fail }, Call::Step { .. }) => {
+                self.unif += unif as usize;
+                self.fail += fail as usize;
+            }
+            (Beside::Same { unif, fail }, _) => self.in_runs += (unif + fail) as usize,
         }
         Ok(())
     }
@@ -102,7 +133,15 @@ impl std::fmt::Display for Tally {
                 write!(f, " {number}: {times}")?;
             }
         }
-        write!(f, "; {} not told by the evaluator", self.untold)
+        write!(f, "; {} not told by the evaluator", self.untold)?;
+        if self.unif + self.fail + self.in_runs + self.too_large == 0 {
+            return Ok(());
+        }
+        write!(
+            f,
+            "; by the baseline too {} unif and {} fail alone, {} in runs; {} too large for it",
+            self.unif, self.fail, self.in_runs, self.too_large
+        )
     }
 }
 
@@ -130,24 +169,42 @@ pub fn write(size: Size, table: Table<'_>, count: usize, out: usize) -> Comparis
     Ok(Some(outcome(&expected)))
 }
 
-pub fn step(size: Size, table: Table<'_>, count: usize, out: Lengths) -> Comparison {
+pub fn step(size: Size, table: Table<'_>, count: usize, out: Lengths) -> Result<Told, String> {
     let table = LentTable::holding(table);
     let mut output = LentTable::filled(out, count);
     let got = (Library::at(size).step)(table.part(), count, output.part_mut());
     table.kept("the table")?;
-    let Some(expected) = evaluator::step(size, table.part(), count, out) else {
-        return Ok(None);
+    let expected = evaluator::step(size, table.part(), count, out);
+    if let Some(expected) = &expected {
+        let answer = expected.as_ref().map(|(made, _)| *made).map_err(|r| *r);
+        same("the answer", &got, &answer)?;
+        let result = expected.as_ref().map(|(_, result)| result);
+        output.has(size, "the output", result.ok())?;
+    }
+    let numbers = table.numbers.part();
+    let baseline = match got {
+        Err(Refusal::WrongColumn) => Beside::LeftOut,
+        // where the evaluator cannot tell, the baseline may
+        _ => beside::step(size, numbers, count, output.memory(), got)?,
     };
-    let answer = expected.as_ref().map(|(made, _)| *made).map_err(|r| *r);
-    same("the answer", &got, &answer)?;
-    let result = expected.as_ref().map(|(_, result)| result);
-    output.has(size, "the output", result.ok())?;
-    Ok(Some(outcome(&expected)))
+    Ok(Told {
+        outcome: expected.as_ref().map(outcome),
+        baseline,
+    })
 }
 
-pub fn run(size: Size, table: Table<'_>, count: usize, work: Lengths, most: u32) -> Comparison {
+pub fn run(
+    size: Size,
+    table: Table<'_>,
+    count: usize,
+    work: Lengths,
+    most: u32,
+) -> Result<Told, String> {
     let Some(expected) = evaluator::run(size, table, count, work, most) else {
-        return Ok(None);
+        return Ok(Told {
+            outcome: None,
+            baseline: Beside::LeftOut,
+        });
     };
     let mut lent = LentTable::holding(table);
     let mut worked = LentTable::filled(work, count);
@@ -165,7 +222,14 @@ pub fn run(size: Size, table: Table<'_>, count: usize, work: Lengths, most: u32)
             worked.kept("the work table")?;
         }
     }
-    Ok(Some(outcome(&expected)))
+    let baseline = match got {
+        Err(Refusal::WrongColumn) => Beside::LeftOut,
+        _ => beside::run(size, lent.memory(), count, worked.memory(), most, got)?,
+    };
+    Ok(Told {
+        outcome: Some(outcome(&expected)),
+        baseline,
+    })
 }
 
 pub fn standing(size: Size, table: Table<'_>, count: usize, k: usize) -> Comparison {
@@ -275,6 +339,14 @@ impl LentTable {
 
     fn part_mut(&mut self) -> TableMut<'_> {
         TableMut::new(self.numbers.part_mut(), self.column.part_mut())
+    }
+
+    /// Before the call and after it.
+    fn memory(&self) -> Memory<'_> {
+        Memory {
+            before: Table::new(&self.numbers.before, &self.column.before),
+            after: self.part(),
+        }
     }
 
     fn kept(&self, what: &str) -> Result<(), String> {

@@ -67,6 +67,18 @@ fn large_thread(size: Size, nodes: usize, random: &mut Random) -> Program {
     }
 }
 
+/// A sound program of threads that unify: two values that are alike but for the variables in them, and behind these goals what uses the variables.
+pub fn goals_program(size: Size, random: &mut Random) -> Program {
+    let threads = random.pick(&[1, 1, 1, 2, 3]);
+    let mut program: Program = (0..threads)
+        .map(|_| Thread::new(size, random, NO_FAULTS).goals())
+        .collect();
+    while program_size(&program) > size.nodes {
+        program.pop();
+    }
+    program
+}
+
 /// A program in which a bound variable may have no binder and a thread may be incoherent.
 pub fn faulty_program(size: Size, random: &mut Random) -> Program {
     let (indices, closures) = random.pick(&[(12, 0), (0, 5), (0, 5), (20, 5)]);
@@ -338,6 +350,90 @@ impl Thread<'_> {
                 let same = self.leaf(binders);
                 (same.clone(), same)
             }
+        }
+    }
+
+    /// Goals over so many variables, one behind the other, and then a use of these.
+    fn goals(&mut self) -> Term {
+        let names = self.random.pick(&[2, 4, 8, 16, 40, 100]);
+        let budget = self.random.pick(&[6, 12, 24, 50, 100, 300]);
+        let mut thread = self.row(6, names);
+        for _ in 0..self.random.pick(&[1, 1, 2, 4]) {
+            let (left, right) = match self.random.below(5) {
+                0 => self.renamings(budget.min(40), names),
+                _ => {
+                    let value = self.full_value(budget);
+                    (self.named(&value, names), self.named(&value, names))
+                }
+            };
+            thread = match self.random.below(4) {
+                0 => application(
+                    application(self.row(3, names), unification(left, right)),
+                    thread,
+                ),
+                _ => guard(unification(left, right), thread),
+            };
+        }
+        thread
+    }
+
+    /// A value of about so many nodes.
+    fn full_value(&mut self, budget: usize) -> Term {
+        if budget <= 2 {
+            return self.leaf(0);
+        }
+        let (mut structure, mut left) = (self.constructor(), budget - 1);
+        while left > 1 {
+            let part = self.random.between(1, left - 1);
+            structure = application(structure, self.full_value(part));
+            left -= part;
+        }
+        structure
+    }
+
+    fn name(&mut self, names: usize) -> Term {
+        Term::Free(self.random.below(names) as u16)
+    }
+
+    /// A structure of variables, and of closures that may hold some.
+    fn row(&mut self, length: usize, names: usize) -> Term {
+        let arguments = 0..self.random.between(1, length);
+        arguments.fold(Term::Constructor(9), |row, _| {
+            let argument = match self.random.below(4) {
+                0 => self.closure(1, 0),
+                _ => self.name(names),
+            };
+            application(row, argument)
+        })
+    }
+
+    /// Two structures of as many variables.
+    fn renamings(&mut self, length: usize, names: usize) -> (Term, Term) {
+        let same = Term::Constructor(9);
+        (0..length).fold((same.clone(), same), |(left, right), _| {
+            let (x, y) = (self.name(names), self.name(names));
+            (application(left, x), application(right, y))
+        })
+    }
+
+    /// The value with variables in the place of some of its parts.
+    fn named(&mut self, value: &Term, names: usize) -> Term {
+        if self.random.one_in(6) {
+            return self.name(names);
+        }
+        self.named_below(value, names)
+    }
+
+    /// As `named`, but what is applied stays a structure.
+    fn named_below(&mut self, value: &Term, names: usize) -> Term {
+        match value {
+            Term::Application(function, argument) => {
+                let function = self.named_below(function, names);
+                application(function, self.named(argument, names))
+            }
+            // a clash now and then
+            _ if self.random.one_in(200) => self.constructor(),
+            leaf => leaf.clone(),
         }
     }
 

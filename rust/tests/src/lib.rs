@@ -1,6 +1,7 @@
-//! The tests of Mespindro: an independent evaluator, and what compares the proved library with it.
+//! The tests of Mespindro: an independent evaluator, a baseline for the speed, and what compares the proved library with both.
 
 pub mod baseline;
+pub mod beside;
 pub mod calls;
 pub mod compare;
 pub mod damage;

@@ -1,4 +1,4 @@
-//! The library against the evaluator, call by call, on random inputs of fixed seeds, at both sizes.
+//! The library against the evaluator and the baseline, call by call, on random inputs of fixed seeds, at both sizes.
 
 use mespindro::{Reason, Refusal, Rule, Table};
 use mespindro_tests::calls::{on_damaged_column, on_program, on_text, random_calls};
@@ -84,6 +84,56 @@ fn large_programs() {
     compare_many("large programs", 6, [30, 30], |size, random| {
         on_program(size, &generate::large_program(size, random), random)
     });
+}
+
+#[test]
+fn goals() {
+    let tally = compare_many("goals", 7, [600, 150], |size, random| {
+        on_program(size, &generate::goals_program(size, random), random)
+    });
+    assert!(tally.unif > 500 && tally.fail > 500);
+}
+
+/// Every goal that programs come to, step by step: the library, the evaluator and the baseline make the same of it.
+#[test]
+fn goals_on_the_way() {
+    type Make = fn(Size, &mut Random) -> Program;
+    let kinds: [(&str, [usize; 2], Make); 4] = [
+        ("goals", [10_000, 2_000], generate::goals_program),
+        ("sound programs", [6_000, 1_000], generate::sound_program),
+        ("worked programs", [4_000, 1_000], generate::worked_program),
+        ("large programs", [100, 30], generate::large_program),
+    ];
+    for (seed, (name, inputs, make)) in (300..).zip(kinds) {
+        let name = format!("on the way of {name}");
+        let tally = compare_many(&name, seed, inputs, |size, random| {
+            goals_of(size, make(size, random))
+        });
+        assert!(tally.unif > 100 && tally.fail > 100, "{name}");
+    }
+}
+
+/// A step by unif or fail is asked for at each of the first programs that take one.
+fn goals_of(size: Size, mut program: Program) -> Vec<Call> {
+    let mut calls = Vec::new();
+    for _ in 0..60 {
+        let Step::To(rule, _, next) = step(&program) else {
+            break;
+        };
+        if matches!(rule, Rule::Unif | Rule::Fail) {
+            let table = OwnTable::of(&program);
+            calls.push(Call::Step {
+                count: table.column.len(),
+                table,
+                out: Lengths::for_nodes(size.nodes),
+            });
+        }
+        if program_size(&next) > size.nodes {
+            break;
+        }
+        program = next;
+    }
+    calls
 }
 
 /// A column that is wrong in any way gives 14, whatever else is wrong with the program.

@@ -1,5 +1,5 @@
-//! `fuzz SECONDS [SEED]`: compares the library with the evaluator on random inputs, at either size, for so long. Prints the seed first; where
-//! the two differ, the smallest call it finds that still does, and ends with status 1.
+//! `fuzz SECONDS [SEED]`: compares the library with the evaluator and with the baseline on random inputs, at either size, for so long. Prints the
+//! seed first; where two of them differ, the smallest call it finds on which they still do, and ends with status 1.
 
 use mespindro_tests::calls::random_calls;
 use mespindro_tests::compare::{compare, Call, Tally};
