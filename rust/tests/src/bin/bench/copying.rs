@@ -41,14 +41,15 @@ impl Times {
     }
 }
 
-pub fn measure(mut progress: impl FnMut(&str)) -> Vec<Row> {
+/// The rows that have this in their names.
+pub fn measure(part: &str, mut progress: impl FnMut(&str)) -> Vec<Row> {
     let inputs = inputs();
-    let mut rows = Vec::new();
-    for input in &inputs {
+    let wanted = inputs.iter().filter(|input| input.name.contains(part));
+    let measured = wanted.map(|input| {
         progress(&input.name);
-        rows.push(row(input));
-    }
-    rows
+        row(input)
+    });
+    measured.collect()
 }
 
 /// Calls the library so often on the input of that name and does nothing else; says whether there is one.
@@ -275,7 +276,9 @@ pub fn report(rows: &[Row], out: &mut String) {
         )
         .unwrap();
     }
-    writeln!(out, "\n{}", summary(rows)).unwrap();
+    if let Some(summary) = summary(rows) {
+        writeln!(out, "\n{summary}").unwrap();
+    }
 }
 
 /// What stands where nothing was measured.
@@ -302,56 +305,53 @@ pub fn times_faster(ratio: f64) -> String {
     }
 }
 
-/// What is asked of the rows, from their numbers.
-fn summary(rows: &[Row]) -> String {
+/// What is asked of the rows, from their numbers; nothing where some are not there.
+fn summary(rows: &[Row]) -> Option<String> {
     let whole = |row: &Row| row.whole.faster();
     let step = |row: &Row| row.step.as_ref()?.faster();
-    format!(
+    Some(format!(
         "Baseline / library is at least {} over long structures by whole calls and {} by the step alone, and at least {} over whole runs. {} {}",
-        least_ratio(rows, Family::Long, whole),
-        least_ratio(rows, Family::Long, step),
-        least_ratio(rows, Family::Run, whole),
-        towers(rows),
-        growth(rows),
-    )
+        least_ratio(rows, Family::Long, whole)?,
+        least_ratio(rows, Family::Long, step)?,
+        least_ratio(rows, Family::Run, whole)?,
+        towers(rows)?,
+        growth(rows)?,
+    ))
 }
 
 /// The least of a family, and where it is.
-fn least_ratio(rows: &[Row], family: Family, of: impl Fn(&Row) -> Option<f64>) -> String {
+fn least_ratio(rows: &[Row], family: Family, of: impl Fn(&Row) -> Option<f64>) -> Option<String> {
     let rows = rows.iter().filter(|row| row.family == family);
     let ratios = rows.filter_map(|row| Some((of(row)?, &row.name)));
-    match ratios.min_by(|a, b| a.0.total_cmp(&b.0)) {
-        Some((ratio, name)) => format!("{} ({name})", times_faster(ratio)),
-        None => NONE.to_string(),
-    }
+    let (ratio, name) = ratios.min_by(|a, b| a.0.total_cmp(&b.0))?;
+    Some(format!("{} ({name})", times_faster(ratio)))
 }
 
-fn tower(rows: &[Row], n: u16) -> &Row {
-    let found = rows.iter().find(|row| row.family == Family::Doubling(n));
-    found.expect("a tower of that height")
+fn tower(rows: &[Row], n: u16) -> Option<&Row> {
+    rows.iter().find(|row| row.family == Family::Doubling(n))
 }
 
-fn towers(rows: &[Row]) -> String {
+fn towers(rows: &[Row]) -> Option<String> {
     let at = |n| {
-        let row = tower(rows, n);
+        let row = tower(rows, n)?;
         let [whole, step] = [Some(&row.whole), row.step.as_ref()].map(faster_cell);
-        format!("{whole} at D({n}) ({step} by the step alone)")
+        Some(format!("{whole} at D({n}) ({step} by the step alone)"))
     };
-    format!("On towers it is {}, {} and {}.", at(10), at(14), at(18))
+    let [low, middle, high] = [at(10)?, at(14)?, at(18)?];
+    Some(format!("On towers it is {low}, {middle} and {high}."))
 }
 
 /// How the times of the whole calls grow with each level.
-fn growth(rows: &[Row]) -> String {
+fn growth(rows: &[Row]) -> Option<String> {
     let (low, high) = (8, 18);
     let levels = f64::from(high - low);
-    let [first, last] = [low, high].map(|n| &tower(rows, n).whole);
+    let (first, last) = (&tower(rows, low)?.whole, &tower(rows, high)?.whole);
     let factor = |first, last| ratio(last, first).powf(1.0 / levels);
     let more = last.library.saturating_sub(first.library);
-    let copying = first.baseline.zip(last.baseline);
-    format!(
+    Some(format!(
         "From D({low}) to D({high}) the library's time grows by {:.2} µs a level, a factor of {:.2}, and the baseline's by a factor of {:.2}.",
         more.as_secs_f64() * 1e6 / levels,
         factor(first.library, last.library),
-        copying.map_or(f64::NAN, |(first, last)| factor(first, last)),
-    )
+        factor(first.baseline?, last.baseline?),
+    ))
 }

@@ -6,7 +6,8 @@
 //! both with their columns, outside the time. Each time is the least of several rounds; of a call of 2 ms and more this thread's own share of the
 //! time counts. tools/bench builds and runs it.
 //!
-//! `bench copying` prints the baseline's table alone. `bench repeat NAME N` makes the library's call of that row N times, for a profiler.
+//! `bench copying` prints the baseline's table alone, `bench copying PART` its rows with PART in their names. `bench repeat NAME N` makes the
+//! library's call of such a row N times, for a profiler.
 
 mod copying;
 mod copying_chart;
@@ -60,10 +61,11 @@ fn main() {
     let words: Vec<&str> = arguments.iter().map(String::as_str).collect();
     match words[..] {
         [] => print!("{}", on_big_stack(measure_all).text()),
-        ["copying"] => print!("{}", on_big_stack(copying_alone)),
+        ["copying"] => print!("{}", on_big_stack(|| copying_alone(""))),
+        ["copying", part] => print!("{}", on_big_stack(|| copying_alone(part))),
         ["repeat", name, times] => on_big_stack(|| repeat(name, times)),
         [folder] => on_big_stack(measure_all).store(Path::new(folder)),
-        _ => panic!("bench [FOLDER | copying | repeat NAME N]"),
+        _ => panic!("bench [FOLDER | copying [PART] | repeat NAME N]"),
     }
 }
 
@@ -95,9 +97,9 @@ impl Found {
     }
 }
 
-fn copying_alone() -> String {
+fn copying_alone(part: &str) -> String {
     let mut progress = Progress::on_terminal();
-    let rows = copying::measure(|name| progress.show(name));
+    let rows = copying::measure(part, |name| progress.show(name));
     let mut text = String::new();
     copying::report(&rows, &mut text);
     text
@@ -135,7 +137,9 @@ fn measure_all() -> Found {
     for (name, measure) in OTHERS {
         next(name, &measure);
     }
-    let copying = copying::measure(|name| progress.show(&format!("against copying: {name}")));
+    let copying = copying::measure("", |name| {
+        progress.show(&format!("against copying: {name}"))
+    });
     let sizes = sizes::measure(&cases, |name| progress.show(&format!("both sizes: {name}")));
     Found {
         rows,
