@@ -23,7 +23,7 @@ pub fn with_column(numbers: Vec<u16>) -> OwnTable {
 }
 
 /// Kind and number.
-type Node = (u16, u16);
+pub type Node = (u16, u16);
 
 pub fn cases() -> Vec<Case> {
     let case = |name, table, most| Case {
@@ -152,7 +152,7 @@ fn alone_cases() -> Vec<Case> {
 }
 
 /// A program of one thread.
-fn one_thread(nodes: &[Node]) -> Vec<u16> {
+pub fn one_thread(nodes: &[Node]) -> Vec<u16> {
     let mut table = vec![1, 0];
     for &(kind, number) in nodes {
         table.extend([kind, number]);
@@ -162,30 +162,30 @@ fn one_thread(nodes: &[Node]) -> Vec<u16> {
 }
 
 /// c1 applied to k elements.
-fn structure(k: u16, element: impl Fn(u16) -> Node) -> Vec<Node> {
+pub fn structure(k: u16, element: impl Fn(u16) -> Node) -> Vec<Node> {
     let mut nodes = vec![(7, 0); k as usize];
     nodes.push((4, 1));
     nodes.extend((0..k).map(element));
     nodes
 }
 
-fn goal(left: Vec<Node>, right: Vec<Node>) -> Vec<Node> {
+pub fn goal(left: Vec<Node>, right: Vec<Node>) -> Vec<Node> {
     let mut nodes = vec![(10, 0)];
     nodes.extend(left);
     nodes.extend(right);
     nodes
 }
 
-fn equal_structures(k: u16) -> Vec<u16> {
+pub fn equal_structures(k: u16) -> Vec<u16> {
     one_thread(&goal(structure(k, |_| (4, 2)), structure(k, |_| (4, 2))))
 }
 
-fn variable_structure(k: u16) -> Vec<u16> {
+pub fn variable_structure(k: u16) -> Vec<u16> {
     one_thread(&goal(structure(k, |_| (4, 2)), structure(k, |i| (3, i))))
 }
 
 /// The tower D(n): the variable n has 2^(n+2) - 3 nodes.
-fn doubling(n: u16) -> Vec<u16> {
+pub fn doubling(n: u16) -> Vec<u16> {
     let mut right = vec![(7, 0); n as usize];
     right.push((4, 9));
     for i in 0..n {
@@ -198,7 +198,7 @@ fn doubling(n: u16) -> Vec<u16> {
 }
 
 /// Each variable against the next smaller one, from the last on: the links make one long chain.
-fn chain(n: u16) -> Vec<u16> {
+pub fn chain(n: u16) -> Vec<u16> {
     one_thread(&goal(
         structure(n, |i| (3, n - i)),
         structure(n, |i| (3, n - i - 1)),
@@ -206,7 +206,7 @@ fn chain(n: u16) -> Vec<u16> {
 }
 
 /// `(g (u x0 cI) x0)` for each I.
-fn alternatives(n: u16) -> Vec<u16> {
+pub fn alternatives(n: u16) -> Vec<u16> {
     let mut table = Vec::new();
     for i in 0..n {
         table.extend([1, 0, 9, 0, 10, 0, 3, 0, 4, i, 3, 0]);
@@ -285,7 +285,7 @@ fn endless(behind: bool) -> Vec<u16> {
     one_thread(&nodes)
 }
 
-fn rules(name: &str) -> Vec<u16> {
+pub fn rules(name: &str) -> Vec<u16> {
     let file = Path::new(env!("CARGO_MANIFEST_DIR"))
         .join("../../rules")
         .join(name)
@@ -382,7 +382,7 @@ pub fn placements(n: usize) -> Vec<u16> {
 }
 
 /// The head applied to each part in turn.
-fn applied(head: Node, parts: &[&[Node]]) -> Vec<Node> {
+pub fn applied(head: Node, parts: &[&[Node]]) -> Vec<Node> {
     let mut nodes = vec![(7, 0); parts.len()];
     nodes.push(head);
     nodes.extend(parts.concat());

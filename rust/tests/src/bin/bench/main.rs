@@ -1,12 +1,19 @@
 //! The benchmark: the library against the independent evaluator and against the floor of copying the table once a step, with the small calls;
-//! and the large calls against the small ones.
+//! against a baseline that copies values as it unifies; and the large calls against the small ones.
 //!
-//! `bench FOLDER` writes FOLDER/SPEED.md's tables between its two marks and FOLDER/speed.svg; without a folder it prints the tables. Both sides
-//! are release builds in one process on the same inputs; before each call the table is filled anew and the work table cleared, both with their
-//! columns, outside the time. Each time is the least of several rounds; of a call of 2 ms and more this thread's own share of the time counts.
-//! tools/bench builds and runs it.
+//! `bench FOLDER` writes FOLDER/SPEED.md's tables between its two marks, FOLDER/speed.svg and FOLDER/copying.svg; without a folder it prints the
+//! tables. Both sides are release builds in one process on the same inputs; before each call the table is filled anew and the work table cleared,
+//! both with their columns, outside the time. Each time is the least of several rounds; of a call of 2 ms and more this thread's own share of the
+//! time counts. tools/bench builds and runs it.
+//!
+//! `bench copying` prints the baseline's table alone, `bench copying PART` its rows with PART in their names. `bench repeat NAME N` makes the
+//! library's call of such a row N times, for a profiler.
 
+mod copying;
+mod copying_chart;
+mod copying_inputs;
 mod inputs;
+mod places;
 mod sizes;
 mod times;
 
@@ -50,14 +57,58 @@ impl Row {
 }
 
 fn main() {
-    let folder = std::env::args().nth(1);
-    let (rows, sizes) = on_big_stack(measure_all);
-    let prolog = prolog_times();
-    let mut text = report(&rows, &prolog);
-    sizes::report(&sizes, &mut text);
-    match folder {
-        None => print!("{text}"),
-        Some(folder) => store(Path::new(&folder), &text, &chart(&rows)),
+    let arguments: Vec<String> = std::env::args().skip(1).collect();
+    let words: Vec<&str> = arguments.iter().map(String::as_str).collect();
+    match words[..] {
+        [] => print!("{}", on_big_stack(measure_all).text()),
+        ["copying"] => print!("{}", on_big_stack(|| copying_alone(""))),
+        ["copying", part] => print!("{}", on_big_stack(|| copying_alone(part))),
+        ["repeat", name, times] => on_big_stack(|| repeat(name, times)),
+        [folder] => on_big_stack(measure_all).store(Path::new(folder)),
+        _ => panic!("bench [FOLDER | copying [PART] | repeat NAME N]"),
+    }
+}
+
+/// All that is found.
+struct Found {
+    rows: Vec<Row>,
+    prolog: Option<(f64, f64)>,
+    copying: Vec<copying::Row>,
+    sizes: sizes::Sizes,
+}
+
+impl Found {
+    fn text(&self) -> String {
+        let mut text = report(&self.rows, &self.prolog);
+        copying::report(&self.copying, &mut text);
+        sizes::report(&self.sizes, &mut text);
+        text
+    }
+
+    fn store(&self, folder: &Path) {
+        store_text(&folder.join("SPEED.md"), &self.text());
+        let charts = [
+            ("speed.svg", chart(&self.rows)),
+            ("copying.svg", copying_chart::chart(&self.copying)),
+        ];
+        for (name, chart) in charts {
+            std::fs::write(folder.join(name), chart).expect("a chart is written");
+        }
+    }
+}
+
+fn copying_alone(part: &str) -> String {
+    let mut progress = Progress::on_terminal();
+    let rows = copying::measure(part, |name| progress.show(name));
+    let mut text = String::new();
+    copying::report(&rows, &mut text);
+    text
+}
+
+fn repeat(name: &str, times: &str) {
+    let times = times.parse().expect("how often");
+    if !copying::repeat(name, times) {
+        panic!("no such row; there are:\n{}", copying::names().join("\n"));
     }
 }
 
@@ -71,7 +122,7 @@ const OTHERS: [Other; 4] = [
     ("placements by standing and thread", reading_out),
 ];
 
-fn measure_all() -> (Vec<Row>, sizes::Sizes) {
+fn measure_all() -> Found {
     let cases = cases();
     let all = cases.len() + OTHERS.len();
     let mut progress = Progress::on_terminal();
@@ -86,8 +137,16 @@ fn measure_all() -> (Vec<Row>, sizes::Sizes) {
     for (name, measure) in OTHERS {
         next(name, &measure);
     }
+    let copying = copying::measure("", |name| {
+        progress.show(&format!("against copying: {name}"))
+    });
     let sizes = sizes::measure(&cases, |name| progress.show(&format!("both sizes: {name}")));
-    (rows, sizes)
+    Found {
+        rows,
+        prolog: prolog_times(),
+        copying,
+        sizes,
+    }
 }
 
 // ---- The times.
@@ -384,12 +443,11 @@ fn chart(rows: &[Row]) -> String {
 const BEGIN: &str = "<!-- the table of tools/bench begins -->\n";
 const END: &str = "<!-- the table of tools/bench ends -->\n";
 
-fn store(folder: &Path, text: &str, chart: &str) {
-    let file = folder.join("SPEED.md");
-    let old = std::fs::read_to_string(&file).expect("docs/SPEED.md is there");
+/// Puts the text between the file's marks.
+fn store_text(file: &Path, text: &str) {
+    let old = std::fs::read_to_string(file).expect("docs/SPEED.md is there");
     let begin = old.find(BEGIN).expect("the first mark") + BEGIN.len();
     let end = old.find(END).expect("the second mark");
-    std::fs::write(&file, format!("{}{}{}", &old[..begin], text, &old[end..]))
+    std::fs::write(file, format!("{}{}{}", &old[..begin], text, &old[end..]))
         .expect("SPEED.md is written");
-    std::fs::write(folder.join("speed.svg"), chart).expect("speed.svg is written");
 }

@@ -14,20 +14,63 @@ pub fn least_of_each<Way: Copy, const N: usize>(
     mut prepare: impl FnMut(),
     mut call: impl FnMut(Way, &mut dyn FnMut()),
 ) -> [Duration; N] {
+    let least = least_rounds(&ways, Duration::from_secs(N as u64), |way| {
+        prepare();
+        let mut took = Duration::ZERO;
+        let watch = Watch::start();
+        call(way, &mut || took = watch.time());
+        took
+    });
+    least.try_into().expect("a time for each way")
+}
+
+/// The least that a round tells of each way, by turns for so long.
+fn least_rounds<Way: Copy>(
+    ways: &[Way],
+    at_least: Duration,
+    mut round: impl FnMut(Way) -> Duration,
+) -> Vec<Duration> {
     let begin = Instant::now();
-    let mut best = [Duration::MAX; N];
+    let mut best = vec![Duration::MAX; ways.len()];
     let mut rounds = 0;
-    while rounds < 5 || begin.elapsed() < Duration::from_secs(N as u64) {
-        for (way, best) in ways.into_iter().zip(&mut best) {
-            prepare();
-            let mut took = Duration::ZERO;
-            let watch = Watch::start();
-            call(way, &mut || took = watch.time());
-            *best = took.min(*best);
+    while rounds < 5 || begin.elapsed() < at_least {
+        for (way, best) in ways.iter().zip(&mut best) {
+            *best = round(*way).min(*best);
         }
         rounds += 1;
     }
     best
+}
+
+/// How long rounds are made before they are looked at, and how often at most.
+const LOOK: Duration = Duration::from_millis(750);
+const LOOKS: usize = 6;
+
+/// The same until it is steady, none half a percent less than before: for times of which differences are taken.
+pub fn steady_least<Way: Copy>(
+    ways: &[Way],
+    mut round: impl FnMut(Way) -> Duration,
+) -> Vec<Duration> {
+    let mut best = least_rounds(ways, LOOK, &mut round);
+    for _ in 1..LOOKS {
+        let again = least_rounds(ways, LOOK, &mut round);
+        let mut steady = true;
+        for (best, again) in best.iter_mut().zip(again) {
+            steady &= ratio(again, *best) > 0.995;
+            *best = again.min(*best);
+        }
+        if steady {
+            break;
+        }
+    }
+    best
+}
+
+/// How long the work takes.
+pub fn taken(work: impl FnOnce()) -> Duration {
+    let watch = Watch::start();
+    work();
+    watch.time()
 }
 
 /// From here a call is interrupted where the machine has other work, in every round.
@@ -91,6 +134,16 @@ pub fn time(d: Duration) -> String {
         format!("{us:.1} µs")
     } else {
         format!("{:.2} ms", us / 1000.0)
+    }
+}
+
+/// With one more place where that tells more.
+pub fn fine_time(d: Duration) -> String {
+    let us = d.as_secs_f64() * 1e6;
+    if us < 10.0 {
+        format!("{us:.2} µs")
+    } else {
+        time(d)
     }
 }
 
