@@ -319,6 +319,8 @@ fn two_at_once_make_the_archives_once() {
     let copy = Copy::new("twice");
     // on x86-64 what rt makes is all that is made
     copy.program("kit/bin/uname", "#!/bin/sh\necho x86_64\n");
+    // there it is made already, of these sources
+    fs::remove_file(copy.stamp()).unwrap();
     fs::write(copy.file("kit/object"), "new\n").unwrap();
     std::thread::scope(|scope| {
         for call in [(); 2].map(|()| scope.spawn(|| copy.archive())) {
@@ -342,6 +344,7 @@ fn two_at_once_make_the_archives_once() {
 fn one_size_that_is_not_proved_leaves_the_archives() {
     let copy = Copy::new("one");
     copy.program("kit/bin/uname", "#!/bin/sh\necho x86_64\n");
+    fs::remove_file(copy.stamp()).unwrap();
     fs::write(copy.file("kit/object"), "new\n").unwrap();
     fs::write(copy.file("kit/unproved"), "small_exports").unwrap();
     let archives = || {
