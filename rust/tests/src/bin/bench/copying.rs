@@ -7,10 +7,10 @@
 use crate::copying_inputs::{inputs, Family, Input};
 use crate::places::{Memory, PLACES};
 use crate::times::{fine_time, ratio, steady_least, taken, thousands};
-use crate::SIZE;
-use mespindro::{small, Reason, Stop, TableMut};
+use mespindro::{Reason, Stop, TableMut};
 use mespindro_tests::baseline::Baseline;
 use mespindro_tests::evaluator::table::OwnTable;
+use mespindro_tests::library::Library;
 use std::fmt::Write;
 use std::time::Duration;
 
@@ -111,8 +111,8 @@ impl Stand<'_> {
         Stand {
             input,
             idle: input.idle(),
-            baseline: Baseline::new(SIZE),
-            memory: Memory::new(),
+            baseline: Baseline::new(input.size),
+            memory: Memory::new(input.size),
             place: 0,
         }
     }
@@ -135,13 +135,14 @@ impl Stand<'_> {
     /// So many calls, each in its own place; what the last one tells.
     fn calls(&mut self, task: Task, calls: usize) -> Stop {
         let (count, most) = (self.input.program.nodes(), self.input.most());
+        let library = Library::at(self.input.size);
         let mut stop = None;
         for place in self.places(calls) {
             let [numbers, column, work, work_column] = self.memory.at(place);
             stop = Some(match task.side {
                 Side::Library => {
                     let table = TableMut::new(numbers, column);
-                    small::run(table, count, TableMut::new(work, work_column), most)
+                    (library.run)(table, count, TableMut::new(work, work_column), most)
                 }
                 Side::Baseline => {
                     let stop = self.baseline.run(numbers, count, work, most);

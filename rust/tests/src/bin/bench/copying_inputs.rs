@@ -4,8 +4,8 @@ use crate::inputs::{
     alternatives, applied, chain, doubling, equal_structures, goal, one_thread, rules, structure,
     variable_structure, with_column, Node,
 };
-use crate::SIZE;
 use mespindro_tests::evaluator::table::OwnTable;
+use mespindro_tests::evaluator::Size;
 
 /// What a row is there for.
 #[derive(Clone, Copy, PartialEq, Eq)]
@@ -20,20 +20,23 @@ pub enum Family {
     Alone,
 }
 
-/// A run that is measured, with the small calls.
+/// A run that is measured, with the calls of its size.
 pub struct Input {
     pub name: String,
     pub family: Family,
+    pub size: Size,
     pub program: OwnTable,
 }
 
 impl Input {
+    /// With the small calls where it fits them.
     fn new(name: &str, family: Family, numbers: Vec<u16>) -> Input {
         let program = with_column(numbers);
-        assert!(program.nodes() <= SIZE.nodes, "{name}: for the small calls");
+        let small = program.nodes() <= Size::SMALL.nodes;
         Input {
             name: name.to_string(),
             family,
+            size: if small { Size::SMALL } else { Size::LARGE },
             program,
         }
     }
@@ -114,7 +117,7 @@ fn so_often(times: u16) -> String {
     }
 }
 
-fn runs() -> [Input; 6] {
+fn runs() -> [Input; 8] {
     let run = |name: &str, numbers| Input::new(name, Family::Run, numbers);
     [
         run("48 ports (rules/leaf-48)", rules("leaf-48")),
@@ -123,8 +126,16 @@ fn runs() -> [Input; 6] {
             handed_list(40, 20),
         ),
         run("6 alternatives over a list of 20 placements", listed(6, 20)),
+        run(
+            "40 alternatives over a list of 20 placements (large calls)",
+            listed(40, 20),
+        ),
         run("12 goals over structures of 40 arguments", goals(12, 40)),
         run("20 goals over structures of 24 arguments", goals(20, 24)),
+        run(
+            "20 goals over structures of 40 arguments (large calls)",
+            goals(20, 40),
+        ),
         run(
             "340 alternatives, each with a variable of its own",
             alternatives(340),
