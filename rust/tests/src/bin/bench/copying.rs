@@ -1,8 +1,8 @@
 //! The library against the baseline, a plain program that copies each value as a variable takes it: long structures, runs of many unifications,
 //! and towers whose unifier doubles at each variable.
 //!
-//! Two measures: the whole call, with the check of its table on both sides; and, of a single step, the step alone, which is the whole call less
-//! one on the same nodes that has nothing to do.
+//! Two measures: the whole call, with the check of its table on both sides; and the steps alone, which are the whole call less one on the same
+//! nodes that has nothing to do.
 
 use crate::copying_inputs::{inputs, Family, Input};
 use crate::places::{Memory, PLACES};
@@ -22,8 +22,8 @@ pub struct Row {
     steps: u32,
     /// Of the whole call.
     pub whole: Times,
-    /// Of the step alone, where it is one.
-    pub step: Option<Times>,
+    /// Of its steps alone.
+    pub step: Times,
 }
 
 /// The times of both sides; of the library alone where the other has none.
@@ -134,7 +134,7 @@ impl Stand<'_> {
 
     /// So many calls, each in its own place; what the last one tells.
     fn calls(&mut self, task: Task, calls: usize) -> Stop {
-        let (count, most) = (self.input.program.nodes(), self.input.most());
+        let (count, most) = (self.input.program.nodes(), self.input.most(task.idle));
         let library = Library::at(self.input.size);
         let mut stop = None;
         for place in self.places(calls) {
@@ -203,20 +203,19 @@ fn row(input: &Input) -> Row {
             library: time(Side::Library, false).expect("of each input"),
             baseline: time(Side::Baseline, false),
         },
-        step: step(Side::Library).map(|library| Times {
-            library,
+        step: Times {
+            library: step(Side::Library).expect("of each input"),
             baseline: step(Side::Baseline),
-        }),
+        },
     }
 }
 
-/// What is called on an input: by both sides, unless it is for one alone, and idle too where it is one step.
+/// What is called on an input, and idle: by both sides, unless it is for one alone.
 fn tasks(input: &Input) -> Vec<Task> {
     let mut tasks = Vec::new();
     for side in [Side::Library, Side::Baseline] {
         if side == Side::Library || input.family != Family::Alone {
-            tasks.push(Task { side, idle: false });
-            tasks.extend(input.single().then_some(Task { side, idle: true }));
+            tasks.extend([false, true].map(|idle| Task { side, idle }));
         }
     }
     tasks
@@ -231,7 +230,7 @@ fn compared(stand: &mut Stand, tasks: &[Task]) -> u32 {
     for &task in tasks {
         let (told, left) = stand.end(task);
         if task.idle {
-            assert_eq!((told.steps, told.reason), (0, Reason::Ended), "{name}");
+            assert_eq!(told.steps, 0, "{name}");
         } else {
             assert!(told == stop && left == end, "{name}: {told:?}, {stop:?}");
         }
@@ -264,7 +263,7 @@ fn times(stand: &mut Stand, tasks: &[Task]) -> Vec<Duration> {
 
 pub fn report(rows: &[Row], out: &mut String) {
     out.push_str("\nThe library against the baseline that copies, of which the section under the tables tells:\n\n");
-    out.push_str("| input | nodes | steps | library | baseline | baseline / library | step alone: library | baseline | baseline / library |\n|---|---|---|---|---|---|---|---|---|\n");
+    out.push_str("| input | nodes | steps | library | baseline | baseline / library | steps alone: library | baseline | baseline / library |\n|---|---|---|---|---|---|---|---|---|\n");
     for row in rows {
         writeln!(
             out,
@@ -272,8 +271,8 @@ pub fn report(rows: &[Row], out: &mut String) {
             row.name,
             thousands(row.nodes),
             thousands(row.steps as usize),
-            cells(Some(&row.whole)),
-            cells(row.step.as_ref()),
+            cells(&row.whole),
+            cells(&row.step),
         )
         .unwrap();
     }
@@ -286,16 +285,14 @@ pub fn report(rows: &[Row], out: &mut String) {
 const NONE: &str = "-";
 
 /// Library, baseline and their ratio.
-fn cells(times: Option<&Times>) -> String {
-    let cell = |time: Option<Duration>| time.map_or(NONE.to_string(), fine_time);
-    let library = cell(times.map(|times| times.library));
-    let baseline = cell(times.and_then(|times| times.baseline));
+fn cells(times: &Times) -> String {
+    let library = fine_time(times.library);
+    let baseline = times.baseline.map_or(NONE.to_string(), fine_time);
     format!("{library} | {baseline} | {}", faster_cell(times))
 }
 
-fn faster_cell(times: Option<&Times>) -> String {
-    let faster = times.and_then(Times::faster);
-    faster.map_or(NONE.to_string(), times_faster)
+fn faster_cell(times: &Times) -> String {
+    times.faster().map_or(NONE.to_string(), times_faster)
 }
 
 pub fn times_faster(ratio: f64) -> String {
@@ -309,12 +306,13 @@ pub fn times_faster(ratio: f64) -> String {
 /// What is asked of the rows, from their numbers; nothing where some are not there.
 fn summary(rows: &[Row]) -> Option<String> {
     let whole = |row: &Row| row.whole.faster();
-    let step = |row: &Row| row.step.as_ref()?.faster();
+    let step = |row: &Row| row.step.faster();
     Some(format!(
-        "Baseline / library is at least {} over long structures by whole calls and {} by the step alone, and at least {} over whole runs. {} {}",
+        "Baseline / library is at least {} over long structures by whole calls and {} by the step alone, and at least {} over whole runs and {} by their steps alone. {} {}",
         least_ratio(rows, Family::Long, whole)?,
         least_ratio(rows, Family::Long, step)?,
         least_ratio(rows, Family::Run, whole)?,
+        least_ratio(rows, Family::Run, step)?,
         towers(rows)?,
         growth(rows)?,
     ))
@@ -335,7 +333,7 @@ fn tower(rows: &[Row], n: u16) -> Option<&Row> {
 fn towers(rows: &[Row]) -> Option<String> {
     let at = |n| {
         let row = tower(rows, n)?;
-        let [whole, step] = [Some(&row.whole), row.step.as_ref()].map(faster_cell);
+        let [whole, step] = [&row.whole, &row.step].map(faster_cell);
         Some(format!("{whole} at D({n}) ({step} by the step alone)"))
     };
     let [low, middle, high] = [at(10)?, at(14)?, at(18)?];

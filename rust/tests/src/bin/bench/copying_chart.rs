@@ -142,7 +142,7 @@ fn ratios(rows: &[&Row], bottom: f64, picture: &mut Picture) {
     picture.bar([LEFT, BARS - 22.0], 10.0, LIBRARY);
     picture.text([LEFT + 16.0, BARS - 12.0], "start", "#666", "whole call");
     picture.bar([LEFT + 100.0, BARS - 22.0], 10.0, PALE);
-    picture.text([LEFT + 116.0, BARS - 12.0], "start", "#666", "step alone");
+    picture.text([LEFT + 116.0, BARS - 12.0], "start", "#666", "steps alone");
 
     let bars: Vec<[Option<f64>; 2]> = rows.iter().map(|row| both(row)).collect();
     let [least, most] = bounds(bars.iter().flatten().flatten().map(|r| r.log2()));
@@ -174,9 +174,9 @@ fn ratios(rows: &[&Row], bottom: f64, picture: &mut Picture) {
     }
 }
 
-/// By the whole call and by the step alone.
+/// By the whole call and by its steps alone.
 fn both(row: &Row) -> [Option<f64>; 2] {
-    [Some(&row.whole), row.step.as_ref()].map(|times| times.and_then(Times::faster))
+    [&row.whole, &row.step].map(Times::faster)
 }
 
 fn bounds(numbers: impl Iterator<Item = f64>) -> [f64; 2] {

@@ -41,25 +41,24 @@ impl Input {
         }
     }
 
-    /// Is it one step, whose own time can be told?
-    pub fn single(&self) -> bool {
-        self.family != Family::Run
-    }
-
-    pub fn most(&self) -> u32 {
-        if self.single() {
-            1
-        } else {
-            10_000
+    /// How many steps a call on it may make, and one that has nothing to do: a whole run is kept from its steps by the limit.
+    pub fn most(&self, idle: bool) -> u32 {
+        match self.family {
+            Family::Run if idle => 0,
+            Family::Run => 10_000,
+            _ => 1,
         }
     }
 
-    /// The same nodes with nothing to do: its guards and unifications are applications.
+    /// The same nodes with nothing to do. In a single step guards and unifications are made applications: the search then passes all nodes, as it
+    /// does after the step.
     pub fn idle(&self) -> OwnTable {
         let mut idle = self.program.clone();
-        for node in idle.numbers.chunks_exact_mut(2) {
-            if matches!(node[0], 9 | 10) {
-                node[0] = 7;
+        if self.family != Family::Run {
+            for node in idle.numbers.chunks_exact_mut(2) {
+                if matches!(node[0], 9 | 10) {
+                    node[0] = 7;
+                }
             }
         }
         idle
