@@ -198,6 +198,20 @@ static void spine_below_fresh(int levels) {
     end();
 }
 
+/* below a fresh node: fresh nodes, each applied to a constructor */
+static void fresh_nodes_applied(int levels) {
+    begin();
+    node(8, 0);
+    for (int i = 0; i < levels; i++) {
+        node(7, 0);
+        node(8, 0);
+    }
+    node(2, 0);
+    for (int i = 0; i < levels; i++)
+        node(4, 1);
+    end();
+}
+
 static void nested_bodies(int levels) {
     begin();
     node(7, 0);
@@ -287,6 +301,7 @@ static const struct family families[] = {
     {"a left spine of %lu applications in a closure beside a goal", spine_in_closure, NODES / 2 - 7},
     {"a left spine of %lu applications that a value is put into", spine_in_body, NODES / 2 - 4},
     {"a left spine of %lu applications below a fresh node", spine_below_fresh, NODES / 2 - 3},
+    {"%lu fresh nodes, one in the other, each applied, below a fresh node", fresh_nodes_applied, (NODES - 4) / 3},
     {"%lu nested bodies applied to a constructor", nested_bodies, (NODES - 6) / 3},
     {"%lu variables of a goal, each bound to a structure with the next", counted_chain, NODES / 7 - 2},
     {"the same of %lu, with the last one behind the goal", bound_chain, NODES / 7 - 2},
