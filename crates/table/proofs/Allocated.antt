@@ -12,7 +12,7 @@ use Rattle.calculus.specs.Good.{HeadInRange, InRange, Here, Holds}
 use Rattle.calculus.proofs.Preorders.{preorder-length}
 use Rattle.calculus.proofs.Preservation.{Among}
 use Rattle.table.specs.Nodes.{kindAt, numberAt, NodeIs, Stands}
-use Rattle.table.specs.Checks.{IsThread}
+use Rattle.table.specs.Checks.{IsThread, NoneAllocated}
 use Rattle.table.proofs.Positions.{NodeWith}
 use Rattle.table.proofs.Trees.{Seen, see, IsBody, term-at, program-at, moved, at-front}
 
@@ -139,3 +139,21 @@ met-in-range {n} {part} {i} {l} t b m = let h = met-held part (t .thread) (t .is
 -- the node that was read
 pub met-here : {part : List ℕ} {i k l : ℕ} (j : ℕ) → NodeIs part i k l → k ≡ 6 → i < j → Met part j l
 met-here {i} j r e b = record { node = i; below = b; kind-is = sym (r .kind-is) ∙ e; number-is = sym (r .number-is) }
+
+-- where none stands, none is held
+pub none-held : {t : List ℕ} {count : ℕ} (p : Tree program) → Stands t 0 p → nodes p ≤ count → NoneAllocated t count → (l : ℕ) (q : Tree program) → Holds l q p → ⊥
+none-held {t} p w h f l q k = let c = holds-stands t l q 0 p w k .closure in f .none (c .node) (omega (arith, c .below)) (c .kind-is)
+
+-- On the way along the nodes.
+
+-- none is passed
+pub none-yet : (t : List ℕ) → NoneAllocated t 0
+none-yet t = record { none = λ k b. absurd (omega arith) }
+
+-- one node more that is none
+pub none-more : {t : List ℕ} {i k m : ℕ} → NoneAllocated t i → NodeIs t i k m → (k ≡ 6 → ⊥) → NoneAllocated t (i + 1)
+none-more {i} f q c = record { none = λ j b s. let h : j ≤ i = omega arith in ⊎-elim (λ (e : j ≡ i). c (q .kind-is ∙ rw (← e) s)) (λ l. f .none j l s) (eq-or-lt-of-le h) }
+
+-- fewer nodes
+pub none-among : {t : List ℕ} {i count : ℕ} → NoneAllocated t i → count ≤ i → NoneAllocated t count
+none-among f h = record { none = λ k b. f .none k (omega arith) }

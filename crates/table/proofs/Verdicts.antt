@@ -8,8 +8,8 @@ use native.Mathlib.Omega.{arith}
 use lib.ListN.{drop, take-append-drop}
 use Rattle.calculus.specs.declared.Refusal.{Refusal}
 use Rattle.calculus.specs.declared.Refusal.the-variants as refusal
-use Rattle.calculus.specs.Tree.{program, Tree, threads}
-use Rattle.calculus.specs.Good.{Closed, Coherent, All, Good}
+use Rattle.calculus.specs.Tree.{program, Tree, empty, alt, threads}
+use Rattle.calculus.specs.Good.{Closed, Coherent, Holds, All, Good}
 use Rattle.calculus.specs.Answers.{number}
 use Rattle.calculus.specs.Calls.{Refusals, Accepts, Refuses, TableOf, plain-refusals}
 use Rattle.calculus.proofs.Answers.{number-positive}
@@ -17,11 +17,12 @@ use Rattle.calculus.proofs.Alls.{all-each, all-with}
 use Rattle.calculus.proofs.Outcomes.{table-of-unique}
 use Rattle.calculus.proofs.Preorders.{nodes-positive}
 use Rattle.table.specs.Nodes.{Stands}
-use Rattle.table.specs.Checks.{walkedNumber, Walks, nothing, loose, scoped, OneBody, ProgramIn, ThreadsAgree, in-force, checkedNumber, Checks, admitted, refused}
+use Rattle.table.specs.Checks.{walkedNumber, Walks, nothing, loose, scoped, OneBody, ProgramIn, ThreadsAgree, NoneAllocated, in-force, checkedNumber, Checks, admitted, refused}
 use Rattle.table.specs.declared.Walked.{Walked}
 use Rattle.table.specs.declared.Walked.the-variants.{NoProgram, Loose, Scoped}
 use Rattle.table.specs.declared.Checked.{Checked}
 use Rattle.table.specs.declared.Checked.the-variants.{Admitted, Refused}
+use Rattle.table.proofs.Allocated.{none-held}
 use Rattle.table.proofs.Scopes.{Within, scoped-closed, closed-scoped, within-threads, threads-within}
 
 -- with scratch enough the limit that the caller asks for is in force
@@ -95,6 +96,12 @@ scoped-only NoProgram e = absurd (omega arith)
 scoped-only Loose e = absurd (omega arith)
 scoped-only Scoped e = refl
 
+-- a program that holds no allocated abstraction is coherent
+plain-coherent : (p : Tree program) → ((l : ℕ) (q : Tree program) → Holds l q p → ⊥) → All Coherent (threads p)
+unfolding threads
+plain-coherent empty f = tt
+plain-coherent (alt x p) f = (record { within = λ l q h. absurd (f l q (inl h)); equal = λ l q r h. absurd (f l q (inl h)) }, plain-coherent p (λ l q h. f l q (inr h)))
+
 module _ {n : ℕ} {t : List ℕ} {count : ℕ} (c : ClosedIn n t count) where
   abbrev this : Tree program
   this = c .program-there
@@ -135,13 +142,21 @@ module _ {n : ℕ} {t : List ℕ} {count : ℕ} (c : ClosedIn n t count) where
   within-all e (loose p h f) = absurd (omega arith)
   within-all e (scoped p h f) = rw (table-of-unique (c .table-of) h) (within-threads p f)
 
+  -- an admitted program
+  coherent-admitted : All Coherent (threads this) → Checks n t count 0
+  coherent-admitted k =
+      let h = c .table-of in
+      admitted this h (record { small = omega (arith, h .counts, h .small); ranges = h .ranges; closed = c .closed; coherent = k }) (there, (closed-all, (coherent-all k, tt)))
+
+  -- no allocated abstraction stands there
+  pub none-coherent : NoneAllocated t count → Checks n t count 0
+  none-coherent f = let h = c .table-of in coherent-admitted (plain-coherent this (none-held this (table-stands h) (omega (arith, h .counts)) f))
+
   -- neither
   pub all-coherent : {r : Walked} {b : Bool} → r ≡ Scoped → Walks n true t count (walkedNumber true r) → b ≡ true → ThreadsAgree t b → Checks n t count 0
   all-coherent e w d a =
       let one = a .agree d this (table-stands (c .table-of)) in
-      let k : All Coherent (threads this) = all-with (λ x k o. record { within = k; equal = o }) (threads this) (within-all (ap (walkedNumber true) e) w) one in
-      let h = c .table-of in
-      admitted this h (record { small = omega (arith, h .counts, h .small); ranges = h .ranges; closed = c .closed; coherent = k }) (there, (closed-all, (coherent-all k, tt)))
+      coherent-admitted (all-with (λ x k o. record { within = k; equal = o }) (threads this) (within-all (ap (walkedNumber true) e) w) one)
 
 -- an admitted program stands there
 pub record AdmittedIn (n : ℕ) (t : List ℕ) (count : ℕ) : Type 0 where

@@ -1,11 +1,14 @@
 // Is a program there (1), has every index its binder (6), is every thread coherent (8)?
 ghost use mathlib.Core.Path.{_≡_};
-ghost use Prim.Native.Nat.{min};
+ghost use mathlib.Core.Bool.{true};
+ghost use Prim.Native.Nat.{_*_, _≤_, _<_, min};
 ghost use lib.ListN.{length};
-ghost use Rattle.table.specs.Checks.{in-force, checkedNumber, Checks};
+ghost use Rattle.table.specs.Checks.{in-force, checkedNumber, Checks, NoneAllocated};
 use crate::Checked;
 use crate::Walked;
 use crate::closures::threads_agree;
+use crate::kinds::ALLOCATED;
+use crate::nodes::node_at;
 use crate::walk::walk;
 use calculus::Refusal;
 
@@ -26,6 +29,23 @@ fn limit_in_force(limit: usize, scratch: usize) -> usize
     least(least(limit, 32766), scratch - 2)
 }
 
+// Whether no allocated abstraction stands among the first nodes. It counts and does not stop early: such a loop is done several nodes at a time.
+fn none_allocated(t: &[u16], count: usize) -> bool
+    requires { ⌜ 2 * count ≤ length (now t) ⌝ }
+    requires { ⌜ count < 65536 ⌝ }
+    ensures { λ r. ⌜ (r ≡ true → NoneAllocated (now (t .entry)) count) ⌝ }
+{
+    let mut found: u16 = 0;
+    let mut i: usize = 0;
+    while i < count {
+        if node_at(t, i).kind == ALLOCATED {
+            found += 1;
+        }
+        i += 1;
+    }
+    found == 0
+}
+
 // The first of the three conditions that holds, over the whole table, or none. The scratch is lent: what it holds afterwards says nothing.
 pub fn check(t: &[u16], count: usize, limit: usize, scratch: &mut [u16]) -> Checked
     ensures { λ r. ⌜ Checks (in-force limit (length (now (scratch .entry)))) (now (t .entry)) count (checkedNumber r) ⌝ }
@@ -38,6 +58,10 @@ pub fn check(t: &[u16], count: usize, limit: usize, scratch: &mut [u16]) -> Chec
         Walked::NoProgram => return Checked::Refused(Refusal::NoProgram),
         Walked::Loose => return Checked::Refused(Refusal::NoBinder),
         Walked::Scoped => {}
+    }
+    // a thread without an allocated abstraction is coherent, and a text or a fresh rule set has none
+    if none_allocated(t, count) {
+        return Checked::Admitted;
     }
     let Walked::Scoped = walk(t, count, n, true, scratch) else {
         return Checked::Refused(Refusal::Incoherent);
