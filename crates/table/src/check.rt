@@ -59,7 +59,7 @@ pub fn check(t: &[u16], count: usize, limit: usize, scratch: &mut [u16]) -> Chec
         Walked::Loose => return Checked::Refused(Refusal::NoBinder),
         Walked::Scoped => {}
     }
-    // a thread without an allocated abstraction is coherent, and a text or a fresh rule set has none
+    // a program without an allocated abstraction is coherent, and a rule set has none before it is run
     if none_allocated(t, count) {
         return Checked::Admitted;
     }
