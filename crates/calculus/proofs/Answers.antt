@@ -7,7 +7,7 @@ use native.Mathlib.Omega.{arith}
 use lib.Dec.{eqb}
 use lib.ListN.{getD, drop}
 use Rattle.calculus.specs.declared.Refusal.{Refusal}
-use Rattle.calculus.specs.declared.Refusal.the-variants.{NoProgram, TooLong, NotCanonical, OutOfPlace, BadNumber, NoBinder, TooManyNodes, Incoherent, NoRoom, NoThread, Finished, WrongColumn}
+use Rattle.calculus.specs.declared.Refusal.the-variants.{NoProgram, TooLong, NotCanonical, OutOfPlace, BadNumber, NoBinder, TooManyNodes, Incoherent, NoRoom, NoThread, Finished, WrongColumn, Closure}
 use Rattle.calculus.specs.declared.Reason.{Reason}
 use Rattle.calculus.specs.declared.Reason.the-variants.{Ended, Steps, Room}
 use Rattle.calculus.specs.declared.Rule.{Rule}
@@ -25,8 +25,8 @@ use Rattle.calculus.specs.declared.Stood.{Stood}
 use Rattle.calculus.specs.declared.Stood.the-variants as stood
 use Rattle.calculus.specs.Answers.{number, reasonBytes, reasonCode, ruleCode, standingCode, Values, countedValues, steppedValues, six, ranValues, stoodValues}
 
--- the refusal numbers are 1 to 14
-number-range : (r : Refusal) → (0 < number r) × (number r ≤ 14)
+-- the refusal numbers are 1 to 15
+number-range : (r : Refusal) → (0 < number r) × (number r ≤ 15)
 number-range NoProgram = omega arith
 number-range TooLong = omega arith
 number-range NotCanonical = omega arith
@@ -39,13 +39,14 @@ number-range NoRoom = omega arith
 number-range NoThread = omega arith
 number-range Finished = omega arith
 number-range WrongColumn = omega arith
+number-range Closure = omega arith
 
 -- they begin with 1
 pub number-positive : (r : Refusal) → 0 < number r
 number-positive r = number-range r .0
 
 -- and have two digits at most
-pub number-small : (r : Refusal) → number r ≤ 14
+pub number-small : (r : Refusal) → number r ≤ 15
 number-small r = number-range r .1
 
 -- what can be told back is told apart
@@ -54,7 +55,7 @@ told-apart tell back h x y e = sym (h x) ∙ ap back e ∙ h y
 
 -- the refusal of a number
 abbrev refusal-of : ℕ → Refusal
-refusal-of m = getD (NoProgram ∷ NoProgram ∷ TooLong ∷ NotCanonical ∷ OutOfPlace ∷ BadNumber ∷ NoBinder ∷ TooManyNodes ∷ Incoherent ∷ NoRoom ∷ NoThread ∷ Finished ∷ NoProgram ∷ NoProgram ∷ WrongColumn ∷ []) m NoProgram
+refusal-of m = getD (NoProgram ∷ NoProgram ∷ TooLong ∷ NotCanonical ∷ OutOfPlace ∷ BadNumber ∷ NoBinder ∷ TooManyNodes ∷ Incoherent ∷ NoRoom ∷ NoThread ∷ Finished ∷ NoProgram ∷ NoProgram ∷ WrongColumn ∷ Closure ∷ []) m NoProgram
 
 refusal-of-number : (r : Refusal) → refusal-of (number r) ≡ r
 refusal-of-number NoProgram = refl
@@ -69,6 +70,7 @@ refusal-of-number NoRoom = refl
 refusal-of-number NoThread = refl
 refusal-of-number Finished = refl
 refusal-of-number WrongColumn = refl
+refusal-of-number Closure = refl
 
 -- a number is that of one refusal
 pub number-injective : (r q : Refusal) → number r ≡ number q → r ≡ q

@@ -3,7 +3,7 @@ use mathlib.Core.Path.{_≡_, refl}
 use mathlib.Core.Option.{bind}
 use lib.ListN.{length}
 use mathlib.Core.List.{[], _∷_}
-use Rattle.calculus.specs.declared.Refusal.the-variants.{NotCanonical}
+use Rattle.calculus.specs.declared.Refusal.the-variants.{NotCanonical, Closure}
 use Rattle.calculus.specs.Report.{report, refusal-report}
 use Rattle.calculus.specs.Tree.{guard, unif, bound, con, fresh, two, preorder, nodes, threads, program-of, uses, stored}
 use Rattle.calculus.specs.Put.{put-in, substitute}
@@ -40,3 +40,8 @@ report-example = refl
 pub refusal-example : refusal-report NotCanonical ≡ ascii "(7:refused1:3)"
 unfolding refusal-report ascii bytes decimal digits
 refusal-example = refl
+
+-- request 7's number has two digits
+pub closure-example : refusal-report Closure ≡ ascii "(7:refused2:15)"
+unfolding refusal-report ascii bytes decimal digits
+closure-example = refl

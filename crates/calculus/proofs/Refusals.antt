@@ -8,15 +8,19 @@ use Rattle.calculus.specs.declared.Refusal.{Refusal}
 use Rattle.calculus.specs.Sheets.{Sheet}
 use Rattle.calculus.specs.Answers.{number}
 use Rattle.calculus.specs.Calls.{Refusals, Accepts, Refuses, Applies, read-refusals, write-refusals, step-refusals, run-refusals, thread-refusals}
+use Rattle.calculus.specs.Report.{operator-refusals}
 use Rattle.calculus.proofs.Bindings.{In}
 
 abbrev pub numbers : Refusals → List ℕ
 numbers [] = []
 numbers (c ∷ cs) = number (c .0) ∷ numbers cs
 
--- the numbers that each call can give, in the order in which they are tested
+-- the numbers that each call can give, in the order in which they are tested, and the program on standard input
 pub read-numbers : (n : ℕ) (b : List ℕ) (out : Sheet) → numbers (read-refusals n b out) ≡ 2 ∷ 3 ∷ 4 ∷ 5 ∷ 6 ∷ 7 ∷ 8 ∷ 9 ∷ []
 read-numbers n b out = refl
+
+pub operator-numbers : (n : ℕ) (b : List ℕ) (out : Sheet) → numbers (operator-refusals n b out) ≡ 2 ∷ 3 ∷ 4 ∷ 5 ∷ 6 ∷ 7 ∷ 15 ∷ 8 ∷ 9 ∷ []
+operator-numbers n b out = refl
 
 module _ (n : ℕ) (table : Sheet) (count : ℕ) where
   pub write-numbers : (out : List ℕ) → numbers (write-refusals n table count out) ≡ 1 ∷ 14 ∷ 6 ∷ 8 ∷ 9 ∷ []
@@ -78,7 +82,7 @@ lowest (c ∷ cs) k r m a (inl g) (inr h) = omega (arith, ap number (g .1), abov
 lowest (c ∷ cs) k r m a (inr g) (inl h) = absurd (g .0 (h .1))
 lowest (c ∷ cs) k r m a (inr g) (inr h) = lowest cs (number (c .0)) r m (a .1) (g .1) h
 
-not-above : (cs : Refusals) (k : ℕ) → Below k cs → Applies cs k → ⊥
+pub not-above : (cs : Refusals) (k : ℕ) → Below k cs → Applies cs k → ⊥
 not-above [] k a h = absurd h
 not-above (c ∷ cs) k a (inl h) = omega (arith, a .0, h .0)
 not-above (c ∷ cs) k a (inr h) = not-above cs k (a .1) h

@@ -3,7 +3,7 @@
 use mathlib.Core.List.{List, [], _∷_}
 use Prim.Native.Nat.{ℕ}
 use Rattle.calculus.specs.declared.Refusal.{Refusal}
-use Rattle.calculus.specs.declared.Refusal.the-variants.{NoProgram, TooLong, NotCanonical, OutOfPlace, BadNumber, NoBinder, TooManyNodes, Incoherent, NoRoom, NoThread, Finished, WrongColumn}
+use Rattle.calculus.specs.declared.Refusal.the-variants.{NoProgram, TooLong, NotCanonical, OutOfPlace, BadNumber, NoBinder, TooManyNodes, Incoherent, NoRoom, NoThread, Finished, WrongColumn, Closure}
 use Rattle.calculus.specs.declared.Reason.{Reason}
 use Rattle.calculus.specs.declared.Reason.the-variants.{Ended, Steps, Room}
 use Rattle.calculus.specs.declared.Rule.{Rule}
@@ -20,7 +20,7 @@ use Rattle.calculus.specs.declared.Ran.the-variants as ran
 use Rattle.calculus.specs.declared.Stood.{Stood}
 use Rattle.calculus.specs.declared.Stood.the-variants as stood
 
--- document 01's refusal numbers, and request 5's
+-- document 01's refusal numbers, request 5's, and request 7's, which is the program's
 abbrev pub number : Refusal → ℕ
 number NoProgram = 1
 number TooLong = 2
@@ -34,6 +34,7 @@ number NoRoom = 9
 number NoThread = 10
 number Finished = 11
 number WrongColumn = 14
+number Closure = 15
 
 -- the bytes of the atom that the program writes for a reason: `ended`, `steps`, `room`
 abbrev pub reasonBytes : Reason → List ℕ

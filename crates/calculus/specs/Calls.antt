@@ -53,17 +53,26 @@ pub record TextOf (n : ℕ) (b : List ℕ) (p : Tree program) : Type 0 where
   pub is : text p ≡ b
   pub ranges : InRange n p
 
-abbrev pub read-refusals : ℕ → List ℕ → Sheet → Refusals
-read-refusals n b out =
+-- 2 to 7: the text, what it spells, its numbers, its binders, its size
+abbrev pub text-refusals : ℕ → List ℕ → Refusals
+text-refusals n b =
     (TooLong, 12 * n < length b)
     ∷ (NotCanonical, (s : Sexp one) → bytes s ≡ b → ⊥)
     ∷ (OutOfPlace, (s : Sexp one) × ((bytes s ≡ b) × ((r : Raw program) → raw-text r ≡ b → ⊥)))
     ∷ (BadNumber, (r : Raw program) × ((raw-text r ≡ b) × ((p : Tree program) → TextOf n b p → ⊥)))
     ∷ (NoBinder, (p : Tree program) × (TextOf n b p × (Closed 0 p → ⊥)))
     ∷ (TooManyNodes, (p : Tree program) × (TextOf n b p × (n < nodes p)))
-    ∷ (Incoherent, (p : Tree program) × (TextOf n b p × (All Coherent (threads p) → ⊥)))
+    ∷ []
+
+-- 8 and 9: its threads' coherence, and the room for it
+abbrev pub late-refusals : ℕ → List ℕ → Sheet → Refusals
+late-refusals n b out =
+    (Incoherent, (p : Tree program) × (TextOf n b p × (All Coherent (threads p) → ⊥)))
     ∷ (NoRoom, (p : Tree program) × (TextOf n b p × (holds out < nodes p)))
     ∷ []
+
+abbrev pub read-refusals : ℕ → List ℕ → Sheet → Refusals
+read-refusals n b out = text-refusals n b ++ late-refusals n b out
 
 -- what a read of b into `out` returns, and what it leaves there
 pub data Reads (n : ℕ) (b : List ℕ) (out : Sheet) : Values → Sheet → Type 0 where

@@ -11,7 +11,7 @@ pub struct Loc(pub u16);
 
 pub struct Con(pub u16);
 
-// Why a call is refused: document 01's numbers 1 to 11, in their order, and request 5's 14.
+// Why a call is refused: document 01's numbers 1 to 11, in their order, and request 5's 14; request 7's 15 is the program's, and no call gives it.
 pub enum Refusal {
     NoProgram,
     TooLong,
@@ -25,6 +25,7 @@ pub enum Refusal {
     NoThread,
     Finished,
     WrongColumn,
+    Closure,
 }
 
 // Why a run stopped.
@@ -104,6 +105,7 @@ pub fn refusal_number(x: Refusal) -> u16
         Refusal::NoThread => 10,
         Refusal::Finished => 11,
         Refusal::WrongColumn => 14,
+        Refusal::Closure => 15,
     }
 }
 

@@ -3,17 +3,17 @@ use mathlib.Core.Path.{_≡_, sym, ap, _∙_}
 use mathlib.Core.List.{List, [], _∷_}
 use Prim.Native.Nat.{ℕ, _*_, _≤_}
 use native.Mathlib.Omega.{arith}
-use lib.ListN.{length, getD, drop, replicate, length-append, length-replicate}
+use lib.ListN.{length, getD, drop, length-append, length-replicate}
 use Rattle.calculus.specs.declared.Reason.{Reason}
 use Rattle.calculus.specs.declared.Counts.{Counts}
 use Rattle.calculus.specs.declared.Refusal.{Refusal}
 use Rattle.calculus.specs.Tree.{term, Tree, nodes, threads, program-of}
-use Rattle.calculus.specs.Sheets.{Sheet, sheet, holds}
+use Rattle.calculus.specs.Sheets.{Sheet, holds}
 use Rattle.calculus.specs.Run.{End, run, room-of}
 use Rattle.calculus.specs.Tally.{run-counts}
 use Rattle.calculus.specs.Answers.{number, reasonCode, Values, six}
 use Rattle.calculus.specs.Calls.{Reads, ran-values, RunsWith}
-use Rattle.calculus.specs.Report.{report, refusal-report, reported, refused}
+use Rattle.calculus.specs.Report.{report, refusal-report, zeros, reported, refused}
 use Rattle.calculus.proofs.Answers.{number-positive, reason-injective, same-value, number-small}
 use Rattle.calculus.proofs.Runs.{program-run-only}
 use Rattle.calculus.proofs.Outcomes.{table-of-unique}
@@ -22,17 +22,15 @@ use Rattle.promises.proofs.Admitted.{accepted}
 use Rattle.small.specs.Limit.{small-limit}
 use Rattle.promises.specs.Worked.{Held, HasRead, HasRun}
 use Rattle.promises.proofs.Worked.{read-gives, run-gives, good-runs}
-use Rattle.promises.proofs.Refused.{reads-exactly, read-length}
+use Rattle.promises.proofs.Refused.{read-length}
+use Rattle.operator.specs.Operator.{ReadsOperators}
+use Rattle.operator.proofs.Reading.{operators-exactly, accepted-plain}
 use Rattle.leaf.specs.Reported.{most, longest, Reported}
 use Rattle.leaf.specs.Written.{HoldsGood, Loaded, EndWritten, RunWritten}
 use Rattle.leaf.proofs.Stores.{wrote-front}
 use Rattle.leaf.proofs.Shapes.{numeral-length, refusal-is}
 
--- what a text is read into: a table of zeros for n nodes, and a column of as many
-abbrev pub zeros : ℕ → Sheet
-zeros n = sheet (replicate (2 * n) 0) (replicate n 0)
-
--- which they hold
+-- a table of zeros for n nodes and a column of as many hold them
 pub zeros-hold : (n : ℕ) → holds (zeros n) ≡ n
 zeros-hold n = omega (arith, length-replicate {A = ℕ} (2 * n) 0, length-replicate {A = ℕ} n 0)
 
@@ -89,11 +87,14 @@ module _ {table : Sheet} {count : ℕ} {work : Sheet} {allowed : ℕ} {v : Value
       wrote = λ q s. rw (table-of-unique s (h .good-there .held .table-of), ← end-is, ← end-told) (e .wrote (has-run .end .last) (end-there .table-of));
     }
 
--- The read of the text b into zeros.
-module _ {b : List ℕ} {v : Values} {t : Sheet} (c : Reads small-limit b (zeros small-limit) v t) where
+-- The read of the operator's text b into zeros.
+module _ {b : List ℕ} {v : Values} {t : Sheet} (c : ReadsOperators small-limit b (zeros small-limit) v t) where
   module _ {m : ℕ} (f : v ≡ accepted m) where
+    plain : Reads small-limit b (zeros small-limit) v t
+    plain = accepted-plain c (ap (λ (x : Values). x .refusal) f)
+
     has-read : HasRead small-limit b (zeros small-limit) v t
-    has-read = read-gives c (ap (λ (x : Values). x .refusal) f)
+    has-read = read-gives plain (ap (λ (x : Values). x .refusal) f)
 
     counts : nodes (has-read .program) ≡ m
     counts = ap (λ (l : List ℕ). getD l 0 0) (sym (has-read .values) ∙ ap (λ (x : Values). x .values) f)
@@ -105,8 +106,8 @@ module _ {b : List ℕ} {v : Values} {t : Sheet} (c : Reads small-limit b (zeros
     pub read-loaded : Loaded small-limit t m
     read-loaded = record {
       good-there = record { program-there = has-read .program; held = read-there; good = has-read .good };
-      wide = read-length c .0 ∙ length-replicate {A = ℕ} (2 * small-limit) 0;
-      long = read-length c .1 ∙ length-replicate {A = ℕ} small-limit 0;
+      wide = read-length plain .0 ∙ length-replicate {A = ℕ} (2 * small-limit) 0;
+      long = read-length plain .1 ∙ length-replicate {A = ℕ} small-limit 0;
     }
 
     -- the report of its run is the text's
@@ -116,7 +117,7 @@ module _ {b : List ℕ} {v : Values} {t : Sheet} (c : Reads small-limit b (zeros
         let u = w .wrote p (read-there .table-of) in
         record {
           written = report (run small-limit most (threads p));
-          reports = reported p (reads-exactly c .accepted-only (ap (λ (x : Values). x .refusal) f)) (record { is = has-read .is; ranges = has-read .good .ranges });
+          reports = reported p (operators-exactly c .accepted-only (ap (λ (x : Values). x .refusal) f)) (record { is = has-read .is; ranges = has-read .good .ranges });
           counts = omega (arith, u);
           is = wrote-front u (w .fits);
         }
@@ -125,7 +126,7 @@ module _ {b : List ℕ} {v : Values} {t : Sheet} (c : Reads small-limit b (zeros
   pub refusal-reported : (r : Refusal) {out after : List ℕ} {next : ℕ} → v .refusal ≡ number r → longest ≤ length out → Wrote out after 0 next (refusal-report r) → Reported small-limit most b out next after
   refusal-reported r f l u = record {
     written = refusal-report r;
-    reports = refused r (reads-exactly c .refused-only r f);
+    reports = refused r (operators-exactly c .refused-only r f);
     counts = omega arith;
     is = wrote-front u (omega (arith, ap length (refusal-is r), length-append (numeral (number r)) (41 ∷ []), numeral-length (number r) (omega (arith, number-small r))));
   }

@@ -4,4 +4,5 @@ pub mod Shapes
 pub mod Reporting
 pub mod Calling
 pub mod Once
+pub mod Closures
 pub mod Examples

@@ -1,4 +1,4 @@
--- What the program writes is a function of the bytes: one report of a text, and no byte past the text limit changes it. Of a refused text it is 2 to 8.
+-- What the program writes is a function of the bytes: one report of a text, and no byte past the text limit changes it. Of a refused text it is 2 to 7 or 15.
 use mathlib.Core.Path.{_≡_, refl, sym, ap, _∙_}
 use mathlib.Core.Logic.{_⊎_, ⊎-elim, inl, inr}
 use mathlib.Core.List.{List, [], _∷_, _++_}
@@ -8,27 +8,31 @@ use native.Mathlib.Omega.{arith}
 use lib.ListN.{length, take, length-take}
 use lib.Seq.{take-all}
 use Rattle.calculus.specs.declared.Refusal.{Refusal}
-use Rattle.calculus.specs.declared.Refusal.the-variants.{TooLong, NoRoom}
+use Rattle.calculus.specs.declared.Refusal.the-variants.{TooLong, Incoherent, NoRoom}
 use Rattle.calculus.specs.Tree.{program, Tree, threads}
 use Rattle.calculus.specs.Run.{run}
 use Rattle.calculus.specs.Answers.{number}
-use Rattle.calculus.specs.Calls.{Refuses, front, TextOf, read-refusals}
-use Rattle.calculus.specs.Report.{report, refusal-report, Reports, reported, refused}
+use Rattle.calculus.specs.Calls.{Refusals, front, TextOf}
+use Rattle.calculus.specs.Report.{report, refusal-report, operator-refusals, zeros, ReportsBy, reported, refused, Reports}
 use Rattle.calculus.proofs.Answers.{number-injective}
 use Rattle.calculus.proofs.Bindings.{In}
 use Rattle.calculus.proofs.Refusals.{given-listed, accepted-not-refused, one-refusal}
 use Rattle.calculus.proofs.Outcomes.{text-of-unique}
-use Rattle.promises.proofs.Refused.{read-has-room}
+use Rattle.operator.proofs.Turned.{never-eight, never-nine}
 use Rattle.leaf.specs.Reported.{Reported, ReportedWhole}
-use Rattle.leaf.proofs.Calling.{zeros, zeros-hold}
+use Rattle.leaf.proofs.Calling.{zeros-hold}
+
+-- two reports of one text by one list of refusals are equal
+pub reports-by-once : {cs : Refusals} {n k : ℕ} {b : List ℕ} {w u : List ℕ} → ReportsBy cs n k b w → ReportsBy cs n k b u → w ≡ u
+reports-by-once {n = n} {k} (reported p a t) (reported q c s) = ap (λ (x : Tree program). report (run n k (threads x))) (text-of-unique t s)
+reports-by-once {cs} (reported p a t) (refused r g) = absurd (accepted-not-refused cs r a g)
+reports-by-once {cs} (refused r g) (reported p a t) = absurd (accepted-not-refused cs r a g)
+reports-by-once {cs} (refused r g) (refused q h) = ap refusal-report (one-refusal cs r q g h)
 
 module _ {n k : ℕ} {b : List ℕ} where
-  -- two reports of one text are equal
+  -- and so are two of the program's
   pub reports-once : {w u : List ℕ} → Reports n k b w → Reports n k b u → w ≡ u
-  reports-once (reported p a t) (reported q c s) = ap (λ (x : Tree program). report (run n k (threads x))) (text-of-unique t s)
-  reports-once (reported p a t) (refused r g) = absurd (accepted-not-refused (read-refusals n b (zeros n)) r a g)
-  reports-once (refused r g) (reported p a t) = absurd (accepted-not-refused (read-refusals n b (zeros n)) r a g)
-  reports-once (refused r g) (refused q h) = ap refusal-report (one-refusal (read-refusals n b (zeros n)) r q g h)
+  reports-once = reports-by-once
 
   -- and so are two outcomes that the contract allows
   pub reported-once : {out : List ℕ} {c d : ℕ} {o u : List ℕ} → Reported n k b out c o → Reported n k b out d u → (c ≡ d) × (o ≡ u)
@@ -60,22 +64,18 @@ whole-reported l r = record { each = λ b h. record { written = r .written; repo
 pub held-reported : {n k : ℕ} {buffer : List ℕ} {m : ℕ} {out : List ℕ} {count : ℕ} {after : List ℕ} → ReportedWhole n k buffer m out count after → m ≤ length buffer → Reported n k (take m buffer) out count after
 held-reported {buffer = buffer} {m} r l = r .each (take m buffer) (take-all (length buffer) (take m buffer) (omega (arith, length-take m buffer)))
 
--- what is in a list, and is not its last, is before it
-before-last : (l : List ℕ) {x y : ℕ} → (y ≡ x → ⊥) → In x (l ++ (y ∷ [])) → In x l
-before-last [] f (inl e) = f e
-before-last [] f (inr h) = h
-before-last (z ∷ l) f (inl e) = inl e
-before-last (z ∷ l) f (inr h) = inr (before-last l f h)
+-- what is in a list, and is neither of its last two, is before them
+before-two : (l : List ℕ) {x y z : ℕ} → (y ≡ x → ⊥) → (z ≡ x → ⊥) → In x (l ++ (y ∷ z ∷ [])) → In x l
+before-two [] f g (inl e) = f e
+before-two [] f g (inr (inl e)) = g e
+before-two [] f g (inr (inr h)) = h
+before-two (a ∷ l) f g (inl e) = inl e
+before-two (a ∷ l) f g (inr h) = inr (before-two l f g h)
 
-module _ {n : ℕ} {b : List ℕ} where
-  -- the program's table and column hold whatever is within the limit: 9 is never given
-  pub never-nine : Refuses (read-refusals n b (zeros n)) NoRoom → ⊥
-  never-nine g = read-has-room (zeros n) (omega (arith, zeros-hold n)) g
-
-  -- what is written is the report of a run, or that of one of these refusals
-  pub reports-can-give : {k : ℕ} {w : List ℕ} → Reports n k b w → ((p : Tree program) × (TextOf n b p × (w ≡ report (run n k (threads p))))) ⊎ ((r : Refusal) × (In (number r) (2 ∷ 3 ∷ 4 ∷ 5 ∷ 6 ∷ 7 ∷ 8 ∷ []) × (w ≡ refusal-report r)))
-  reports-can-give (reported p a t) = inl (p, (t, refl))
-  reports-can-give (refused r g) =
-      let cs = read-refusals n b (zeros n) in
-      let last : 9 ≡ number r → ⊥ = λ e. never-nine (rw (number-injective r NoRoom (sym e)) at g) in
-      inr (r, (before-last (2 ∷ 3 ∷ 4 ∷ 5 ∷ 6 ∷ 7 ∷ 8 ∷ []) last (given-listed cs r g), refl))
+-- what is written is the report of a run, or that of one of these refusals: 8 and 9 are never given
+pub reports-can-give : {n k : ℕ} {b w : List ℕ} → Reports n k b w → ((p : Tree program) × (TextOf n b p × (w ≡ report (run n k (threads p))))) ⊎ ((r : Refusal) × (In (number r) (2 ∷ 3 ∷ 4 ∷ 5 ∷ 6 ∷ 7 ∷ 15 ∷ []) × (w ≡ refusal-report r)))
+reports-can-give (reported p a t) = inl (p, (t, refl))
+reports-can-give {n} {b = b} (refused r g) =
+    let eight : 8 ≡ number r → ⊥ = λ e. never-eight n b (zeros n) (rw (number-injective r Incoherent (sym e)) at g) in
+    let nine : 9 ≡ number r → ⊥ = λ e. never-nine n b (zeros n) (omega (arith, zeros-hold n)) (rw (number-injective r NoRoom (sym e)) at g) in
+    inr (r, (before-two (2 ∷ 3 ∷ 4 ∷ 5 ∷ 6 ∷ 7 ∷ 15 ∷ []) eight nine (given-listed (operator-refusals n b (zeros n)) r g), refl))

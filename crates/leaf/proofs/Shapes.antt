@@ -47,12 +47,12 @@ pub report-is : (e : End (List (Tree term))) → report e ≡ startBytes (e .rea
 unfolding report bytes numeral text raw-text reasonAtom
 report-is e = three (reasonAtom (e .reason)) (numeral (e .taken)) (text (program-of (e .last)))
 
--- a run that stopped for want of room before its first step
-pub room-report : (ts : List (Tree term)) → report (record { reason = Room; taken = 0; last = ts }) ≡ ascii "(4:room1:0" ++ (text (program-of ts) ++ ascii ")")
+-- a run that stopped for want of room after its first step
+pub room-report : (ts : List (Tree term)) → report (record { reason = Room; taken = 1; last = ts }) ≡ ascii "(4:room1:1" ++ (text (program-of ts) ++ ascii ")")
 unfolding ascii reasonAtom numeral bytes decimal digits
-room-report ts = report-is (record { reason = Room; taken = 0; last = ts })
+room-report ts = report-is (record { reason = Room; taken = 1; last = ts })
 
--- a run that ended after two steps
-pub two-steps-report : (ts : List (Tree term)) → report (record { reason = Ended; taken = 2; last = ts }) ≡ ascii "(5:ended1:2" ++ (text (program-of ts) ++ ascii ")")
+-- a run that ended after three steps
+pub three-steps-report : (ts : List (Tree term)) → report (record { reason = Ended; taken = 3; last = ts }) ≡ ascii "(5:ended1:3" ++ (text (program-of ts) ++ ascii ")")
 unfolding ascii reasonAtom numeral bytes decimal digits
-two-steps-report ts = report-is (record { reason = Ended; taken = 2; last = ts })
+three-steps-report ts = report-is (record { reason = Ended; taken = 3; last = ts })

@@ -121,7 +121,7 @@ fn report(text: &[u8], out: &mut [u8]) -> usize
 {
     let mut table = [0u16; NUMBERS];
     let mut column = [0u16; LIMIT];
-    match small::read(text, &mut table, &mut column) {
+    match operator::read(text, &mut table, &mut column) {
         Counted::Count(n) => put_run(n, &mut table, &mut column, out),
         Counted::Refused(r) => put_refusal(r, out),
     }

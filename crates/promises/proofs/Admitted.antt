@@ -11,10 +11,11 @@ use Rattle.calculus.specs.Sexp.{list}
 use Rattle.calculus.specs.Text.{encode, raw, raw-text, text}
 use Rattle.calculus.specs.Column.{column, ColumnOf}
 use Rattle.calculus.specs.Answers.{Values}
-use Rattle.calculus.specs.Calls.{Accepts, front, put-front, TextOf, Reads, read, TableOf, table-refusals, Writes, written}
+use Rattle.calculus.specs.Calls.{Accepts, front, put-front, TextOf, text-refusals, late-refusals, Reads, read, TableOf, table-refusals, Writes, written}
 use Rattle.calculus.proofs.Preorders.{preorder-injective}
 use Rattle.calculus.proofs.Outcomes.{text-of-unique, table-of-unique, reads-once, writes-once}
 use Rattle.calculus.proofs.Texts.{text-length}
+use Rattle.table.proofs.Verdicts.{accepts-both}
 use Rattle.promises.specs.Worked.{Held}
 
 -- it is denied that A is denied
@@ -100,36 +101,35 @@ module _ {n : ℕ} {count : ℕ} {p : Tree program} where
 abbrev pub accepted : ℕ → Values
 accepted m = record { refusal = 0; values = m ∷ [] }
 
-module _ {n : ℕ} {p : Tree program} (g : Good n p) where
-  -- the text of a good program is read, whatever else a table with room for it holds
-  pub good-read : (out : Sheet) → n ≤ 65536 → nodes p ≤ holds out → Reads n (text p) out (accepted (nodes p)) (put-front p out)
-  unfolding text raw-text
-  good-read out l r =
-      let t : TextOf n (text p) p = record { is = refl; ranges = g .ranges } in
-      let same : (q : Tree program) → TextOf n (text p) q → q ≡ p = λ q h. text-of-unique h t in
-      read p (
-        (λ h. omega (arith, text-length n p (omega arith) (g .ranges), g .small)),
+-- the text of a program that is small and has a binder for every index is given none of 2 to 7
+pub text-accepted : {n : ℕ} {b : List ℕ} {p : Tree program} → n ≤ 65536 → TextOf n b p → Closed 0 p → nodes p ≤ n → Accepts (text-refusals n b)
+unfolding text raw-text
+text-accepted {n} {b} {p} l t c s =
+    let same : (q : Tree program) → TextOf n b q → q ≡ p = λ q h. text-of-unique h t in (
+      (λ h. omega (arith, text-length n p (omega arith) (t .ranges), ap length (t .is))),
+      (
+        (λ f. f (list (encode (raw p))) (t .is)),
         (
-          (λ f. f (list (encode (raw p))) refl),
+          (λ f. f .1 .1 (raw p) (t .is)),
           (
-            (λ f. f .1 .1 (raw p) refl),
+            (λ f. f .1 .1 p t),
             (
-              (λ f. f .1 .1 p t),
-              (
-                (λ f. f .1 .1 (rw (same (f .0) (f .1 .0)) (g .closed))),
-                (
-                  (λ f. omega (arith, f .1 .1, g .small, ap nodes (same (f .0) (f .1 .0)))),
-                  (
-                    (λ f. f .1 .1 (rw (same (f .0) (f .1 .0)) (g .coherent))),
-                    ((λ f. omega (arith, f .1 .1, ap nodes (same (f .0) (f .1 .0)))), tt),
-                  ),
-                ),
-              ),
+              (λ f. f .1 .1 (rw (same (f .0) (f .1 .0)) c)),
+              ((λ f. omega (arith, f .1 .1, ap nodes (same (f .0) (f .1 .0)))), tt),
             ),
           ),
         ),
-      )
-      t
+      ),
+    )
+
+module _ {n : ℕ} {p : Tree program} (g : Good n p) where
+  -- the text of a good program is read, whatever else a table with room for it holds
+  pub good-read : (out : Sheet) → n ≤ 65536 → nodes p ≤ holds out → Reads n (text p) out (accepted (nodes p)) (put-front p out)
+  good-read out l r =
+      let t : TextOf n (text p) p = record { is = refl; ranges = g .ranges } in
+      let same : (q : Tree program) → TextOf n (text p) q → q ≡ p = λ q h. text-of-unique h t in
+      let late : Accepts (late-refusals n (text p) out) = ((λ f. f .1 .1 (rw (same (f .0) (f .1 .0)) (g .coherent))), ((λ f. omega (arith, f .1 .1, ap nodes (same (f .0) (f .1 .0)))), tt)) in
+      read p (accepts-both (late-refusals n (text p) out) (text-refusals n (text p)) (text-accepted l t (g .closed) (g .small)) late) t
 
   -- and nothing else can come of it
   pub good-read-only : {out : Sheet} {v : Values} {after : Sheet} → n ≤ 65536 → nodes p ≤ holds out → Reads n (text p) out v after → (v ≡ accepted (nodes p)) × (after ≡ put-front p out)

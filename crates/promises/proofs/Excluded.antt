@@ -65,7 +65,7 @@ module _ (l : ℕ) (q : Tree program) where
   among-right (c ∷ cs) ds h = inr (among-right cs ds h)
 
   -- they are all there
-  holds-among : {s : Sort} (t : Tree s) → Holds l q t → Among l q (closures t)
+  pub holds-among : {s : Sort} (t : Tree s) → Holds l q t → Among l q (closures t)
   unfolding closures
   holds-among empty h = absurd h
   holds-among (alt t p) (inl h) = among-left (closures t) (closures p) (holds-among t h)

@@ -1,6 +1,6 @@
 -- What the checks of a table show together.
 use mathlib.Core.Path.{_≡_, refl, sym, ap, _∙_}
-use mathlib.Core.Logic.{inl, inr}
+use mathlib.Core.Logic.{_⊎_, inl, inr, ⊎-elim}
 use mathlib.Core.Bool.{Bool, true, false}
 use mathlib.Core.List.{List, [], _∷_, _++_}
 use Prim.Native.Nat.{ℕ, _+_, _*_, _-_, _≤_, _<_}
@@ -8,21 +8,21 @@ use native.Mathlib.Omega.{arith}
 use lib.ListN.{drop, take-append-drop}
 use Rattle.calculus.specs.declared.Refusal.{Refusal}
 use Rattle.calculus.specs.declared.Refusal.the-variants as refusal
-use Rattle.calculus.specs.Tree.{program, Tree, empty, alt, threads}
-use Rattle.calculus.specs.Good.{Closed, Coherent, Holds, All, Good}
+use Rattle.calculus.specs.Tree.{program, Tree, threads}
+use Rattle.calculus.specs.Good.{Closed, Coherent, All, Good}
 use Rattle.calculus.specs.Answers.{number}
 use Rattle.calculus.specs.Calls.{Refusals, Accepts, Refuses, TableOf, plain-refusals}
 use Rattle.calculus.proofs.Answers.{number-positive}
 use Rattle.calculus.proofs.Alls.{all-each, all-with}
 use Rattle.calculus.proofs.Outcomes.{table-of-unique}
 use Rattle.calculus.proofs.Preorders.{nodes-positive}
+use Rattle.calculus.proofs.Closures.{plain-coherent}
 use Rattle.table.specs.Nodes.{Stands}
-use Rattle.table.specs.Checks.{walkedNumber, Walks, nothing, loose, scoped, OneBody, ProgramIn, ThreadsAgree, NoneAllocated, in-force, checkedNumber, Checks, admitted, refused}
+use Rattle.table.specs.Checks.{walkedNumber, Walks, nothing, loose, scoped, OneBody, ProgramIn, ThreadsAgree, NoClosure, in-force, checkedNumber, Checks, admitted, refused}
 use Rattle.table.specs.declared.Walked.{Walked}
 use Rattle.table.specs.declared.Walked.the-variants.{NoProgram, Loose, Scoped}
 use Rattle.table.specs.declared.Checked.{Checked}
 use Rattle.table.specs.declared.Checked.the-variants.{Admitted, Refused}
-use Rattle.table.proofs.Allocated.{none-held}
 use Rattle.table.proofs.Scopes.{Within, scoped-closed, closed-scoped, within-threads, threads-within}
 
 -- with scratch enough the limit that the caller asks for is in force
@@ -46,6 +46,17 @@ module _ (ds : Refusals) where
   pub accepts-both : (cs : Refusals) → Accepts cs → Accepts ds → Accepts (cs ++ ds)
   accepts-both [] a b = b
   accepts-both (c ∷ cs) a b = (a .0, accepts-both cs (a .1) b)
+
+  -- what is refused is refused by the first, or accepted by them and refused by the others
+  pub refuses-either : (cs : Refusals) (r : Refusal) → Refuses (cs ++ ds) r → Refuses cs r ⊎ (Accepts cs × Refuses ds r)
+  refuses-either [] r g = inr (tt, g)
+  refuses-either (c ∷ cs) r (inl g) = inl (inl g)
+  refuses-either (c ∷ cs) r (inr g) = ⊎-elim (λ h. inl (inr (g .0, h))) (λ h. inr ((g .0, h .0), h .1)) (refuses-either cs r (g .1))
+
+  -- what is accepted is accepted by both
+  pub both-accept : (cs : Refusals) → Accepts (cs ++ ds) → Accepts cs × Accepts ds
+  both-accept [] a = (tt, a)
+  both-accept (c ∷ cs) a = let b = both-accept cs (a .1) in ((a .0, b .0), b .1)
 
 module _ {n : ℕ} {t : List ℕ} {count : ℕ} where
   -- a program that is the first nodes of a table stands at its front
@@ -96,12 +107,6 @@ scoped-only NoProgram e = absurd (omega arith)
 scoped-only Loose e = absurd (omega arith)
 scoped-only Scoped e = refl
 
--- a program that holds no allocated abstraction is coherent
-plain-coherent : (p : Tree program) → ((l : ℕ) (q : Tree program) → Holds l q p → ⊥) → All Coherent (threads p)
-unfolding threads
-plain-coherent empty f = tt
-plain-coherent (alt x p) f = (record { within = λ l q h. absurd (f l q (inl h)); equal = λ l q r h. absurd (f l q (inl h)) }, plain-coherent p (λ l q h. f l q (inr h)))
-
 module _ {n : ℕ} {t : List ℕ} {count : ℕ} (c : ClosedIn n t count) where
   abbrev this : Tree program
   this = c .program-there
@@ -148,9 +153,9 @@ module _ {n : ℕ} {t : List ℕ} {count : ℕ} (c : ClosedIn n t count) where
       let h = c .table-of in
       admitted this h (record { small = omega (arith, h .counts, h .small); ranges = h .ranges; closed = c .closed; coherent = k }) (there, (closed-all, (coherent-all k, tt)))
 
-  -- no allocated abstraction stands there
-  pub none-coherent : NoneAllocated t count → Checks n t count 0
-  none-coherent f = let h = c .table-of in coherent-admitted (plain-coherent this (none-held this (table-stands h) (omega (arith, h .counts)) f))
+  -- it holds no allocated abstraction
+  pub none-coherent : {b : Bool} → b ≡ true → NoClosure t count b → Checks n t count 0
+  none-coherent e f = let h = c .table-of in coherent-admitted (plain-coherent this (f .none e this (table-stands h) (h .counts)))
 
   -- neither
   pub all-coherent : {r : Walked} {b : Bool} → r ≡ Scoped → Walks n true t count (walkedNumber true r) → b ≡ true → ThreadsAgree t b → Checks n t count 0

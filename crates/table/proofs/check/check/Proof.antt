@@ -49,7 +49,7 @@ same-length-3 : tie.Need-same-length-3
 same-length-3 c = search needs
 
 returns-4 : tie.Need-returns-4
-returns-4 c = rw (← c .before .before .before .before .before .before .before .before .before .limit-in-force .ensures) (none-coherent (closed-there (c .before .before)) (c .before .none-allocated .ensures (c .if2 .taken)))
+returns-4 c = rw (← c .before .before .before .before .before .before .before .before .before .limit-in-force .ensures) (none-coherent (closed-there (c .before .before)) (c .if2 .taken) (c .before .none-allocated .ensures))
 
 walk-requires-2 : tie.Need-walk-requires-2
 walk-requires-2 c κs = search needs
