@@ -1,15 +1,17 @@
--- What the program writes tells what it says: the reason, the steps and the end program of a run, or the refusal.
+-- What the program writes tells what it says: the reason, the steps and the end program of a run, or the refusal. Its tables have room for n nodes.
 use mathlib.Core.Path.{_≡_, sym, ap, _∙_}
 use mathlib.Core.List.{List}
-use Prim.Native.Nat.{ℕ}
+use Prim.Native.Nat.{ℕ, _*_}
 use native.Mathlib.Omega.{arith}
+use lib.ListN.{length-replicate}
 use Rattle.calculus.specs.declared.Refusal.{Refusal}
 use Rattle.calculus.specs.Tree.{term, program, Tree, threads, program-of}
+use Rattle.calculus.specs.Sheets.{holds}
 use Rattle.calculus.specs.Run.{End}
 use Rattle.calculus.specs.Sexp.{decimal, one, many, Sexp, atom, list, nothing, more}
 use Rattle.calculus.specs.Text.{encode, raw}
 use Rattle.calculus.specs.Answers.{number, reasonBytes}
-use Rattle.calculus.specs.Report.{report, refusal-report, refusedBytes}
+use Rattle.calculus.specs.Report.{report, refusal-report, refusedBytes, zeros}
 use Rattle.calculus.proofs.Answers.{number-injective, reason-bytes-injective}
 use Rattle.calculus.proofs.Preorders.{threads-of-program}
 use Rattle.calculus.proofs.Decimals.{decimal-injective}
@@ -46,3 +48,7 @@ unfolding report refusal-report
 report-no-refusal e r h =
     let m : list (run-members e) ≡ list (refusal-members r) = bytes-injective (list (run-members e)) (list (refusal-members r)) h in
     let z : _≡_ {A = ℕ} 0 1 = cc in omega arith
+
+-- a table of zeros for n nodes and a column of as many hold them
+pub zeros-hold : (n : ℕ) → holds (zeros n) ≡ n
+zeros-hold n = omega (arith, length-replicate {A = ℕ} (2 * n) 0, length-replicate {A = ℕ} n 0)

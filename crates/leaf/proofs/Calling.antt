@@ -30,10 +30,6 @@ use Rattle.leaf.specs.Written.{HoldsGood, Loaded, EndWritten, RunWritten
 use Rattle.leaf.proofs.Stores.{wrote-front}
 use Rattle.leaf.proofs.Shapes.{numeral-length, refusal-is}
 
--- a table of zeros for n nodes and a column of as many hold them
-pub zeros-hold : (n : ℕ) → holds (zeros n) ≡ n
-zeros-hold n = omega (arith, length-replicate {A = ℕ} (2 * n) 0, length-replicate {A = ℕ} n 0)
-
 -- what a run that stopped returns
 abbrev pub stopped : Reason → ℕ → ℕ → Counts → Values
 stopped r m k c = record { refusal = 0; values = reasonCode r ∷ m ∷ k ∷ six c }

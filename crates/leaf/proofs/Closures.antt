@@ -8,10 +8,9 @@ use Rattle.calculus.specs.declared.Refusal.{Refusal}
 use Rattle.calculus.specs.declared.Refusal.the-variants.{Incoherent, NoRoom, Closure}
 use Rattle.calculus.specs.Calls.{Refusals, Refuses, read-refusals}
 use Rattle.calculus.specs.Report.{refusal-report, operator-refusals, zeros, ReportsBy, reported, refused, Reports, ReportsBefore}
-use Rattle.calculus.proofs.Reports.{refusal-report-injective, report-no-refusal}
+use Rattle.calculus.proofs.Reports.{zeros-hold, refusal-report-injective, report-no-refusal}
 use Rattle.operator.specs.Operator.{ClosureText}
 use Rattle.operator.proofs.Turned.{closure-turned, turned-closure, never-eight, never-nine, refused-before, accepted-before, refused-still, accepted-still, eight-turned}
-use Rattle.leaf.proofs.Calling.{zeros-hold}
 
 -- a refusal is written only where it is given
 written-given : (cs : Refusals) {n k : ℕ} {b w : List ℕ} (r : Refusal) → w ≡ refusal-report r → ReportsBy cs n k b w → Refuses cs r

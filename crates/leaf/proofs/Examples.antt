@@ -22,6 +22,7 @@ use Rattle.calculus.proofs.Preorders.{threads-of-program}
 use Rattle.calculus.proofs.Machines.{run-ended, run-goes, run-large, run-returns}
 use Rattle.calculus.proofs.Closures.{plain-coherent}
 use Rattle.calculus.proofs.Ends.{report-example, refusal-example, closure-example}
+use Rattle.calculus.proofs.Reports.{zeros-hold}
 use Rattle.promises.proofs.Admitted.{good-read}
 use Rattle.promises.proofs.Refused.{reads-exactly}
 use Rattle.promises.proofs.Samples.{not-empty}
@@ -30,7 +31,6 @@ use Rattle.promises.proofs.Excluded.{closures, holds-among}
 use Rattle.operator.proofs.Turned.{accepted-still, plain-kept}
 use Rattle.leaf.specs.Reported.{most}
 use Rattle.leaf.proofs.Shapes.{room-report, three-steps-report}
-use Rattle.leaf.proofs.Calling.{zeros-hold}
 use Rattle.leaf.proofs.Closures.{closure-reported}
 
 -- what is reported of the text of a good program without a closure is its run

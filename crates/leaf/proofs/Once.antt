@@ -18,9 +18,9 @@ use Rattle.calculus.proofs.Answers.{number-injective}
 use Rattle.calculus.proofs.Bindings.{In}
 use Rattle.calculus.proofs.Refusals.{given-listed, accepted-not-refused, one-refusal}
 use Rattle.calculus.proofs.Outcomes.{text-of-unique}
+use Rattle.calculus.proofs.Reports.{zeros-hold}
 use Rattle.operator.proofs.Turned.{never-eight, never-nine}
 use Rattle.leaf.specs.Reported.{Reported, ReportedWhole}
-use Rattle.leaf.proofs.Calling.{zeros-hold}
 
 -- two reports of one text by one list of refusals are equal
 pub reports-by-once : {cs : Refusals} {n k : ℕ} {b : List ℕ} {w u : List ℕ} → ReportsBy cs n k b w → ReportsBy cs n k b u → w ≡ u

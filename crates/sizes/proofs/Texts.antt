@@ -4,25 +4,29 @@ use mathlib.Core.Logic.{inl, inr}
 use mathlib.Core.List.{List, [], _∷_}
 use Prim.Native.Nat.{ℕ, _*_, _≤_, _<_}
 use native.Mathlib.Omega.{arith}
-use lib.ListN.{length, replicate, length-replicate}
+use lib.ListN.{length}
 use Rattle.calculus.specs.declared.Refusal.{Refusal}
-use Rattle.calculus.specs.declared.Refusal.the-variants.{TooLong, BadNumber, TooManyNodes, NoRoom}
+use Rattle.calculus.specs.declared.Refusal.the-variants.{TooLong, BadNumber, TooManyNodes, NoRoom, Closure}
 use Rattle.calculus.specs.Tree.{program, Tree, nodes, threads}
-use Rattle.calculus.specs.Good.{InRange, Good}
-use Rattle.calculus.specs.Sheets.{Sheet, sheet, holds}
+use Rattle.calculus.specs.Good.{InRange, HoldsClosure, Good}
+use Rattle.calculus.specs.Sheets.{Sheet, holds}
 use Rattle.calculus.specs.Run.{run}
 use Rattle.calculus.specs.Sexp.{list}
 use Rattle.calculus.specs.Text.{encode, raw, raw-text, text}
 use Rattle.calculus.specs.Answers.{number, Values}
 use Rattle.calculus.specs.Calls.{Refuses, TextOf, read-refusals, Reads, read, refused}
-use Rattle.calculus.specs.Report.{report, Reports, reported}
+use Rattle.calculus.specs.Report.{report, refusal-report, operator-refusals, zeros, reported, Reports}
 use Rattle.calculus.specs.Report as reports
 use Rattle.calculus.proofs.Answers.{number-positive}
 use Rattle.calculus.proofs.Texts.{text-injective, text-length}
+use Rattle.calculus.proofs.Refusals.{accepted-not-refused, one-refusal}
+use Rattle.calculus.proofs.Reports.{zeros-hold}
 use Rattle.promises.proofs.Admitted.{closed-stable, coherent-stable, good-read-only, good-written-only}
 use Rattle.promises.proofs.Refused.{reads-exactly}
 use Rattle.promises.proofs.Worked.{put-held, read-gives}
 use Rattle.promises.proofs.Given.{gives-3, gives-4, gives-6, gives-8, gives-9}
+use Rattle.operator.specs.Operator.{ClosureText}
+use Rattle.operator.proofs.Turned.{closure-turned, turned-closure, refused-before, accepted-before}
 use Rattle.sizes.specs.Texts.{Within, ReadAs, WritesBack, StoredTexts, OldRefusal, MeetsOldLeaf, OldLeaf, OldProgram, OldReport, SameReads, KeptRefusal, KeptRefusals}
 use Rattle.sizes.proofs.Wider.{wider-text, wider-good}
 
@@ -84,10 +88,6 @@ module _ {n : ℕ} {p : Tree program} {out : Sheet} where
   met-seven : Met n p out TooManyNodes → n < nodes p
   met-seven (with-seven l) = l
 
--- what the program on standard input reads into
-abbrev zeros : ℕ → Sheet
-zeros n = sheet (replicate (2 * n) 0) (replicate n 0)
-
 -- Of the text b of a program p that is admitted at m:
 module _ {n m : ℕ} (l : n ≤ m) (k : m ≤ 65536) {b : List ℕ} {p : Tree program} (e : text p ≡ b) (g : Good m p) where
   -- within n the program is admitted at n
@@ -140,16 +140,28 @@ module _ {n m : ℕ} (l : n ≤ m) (k : m ≤ 65536) {b : List ℕ} {p : Tree pr
       seven = λ z. met-seven (met (reads-exactly h .refused-only TooManyNodes (omega arith)));
     }
 
+  -- within n it is an operator's text with a closure where p holds one
+  closure-text : Within n p → HoldsClosure p → ClosureText n b
+  closure-text w h = record { program-there = p; text-of = record { is = e; ranges = w .1 }; closed = g .closed; small = w .0; closure = h }
+
+  -- and it is one only so
+  closure-within : ClosureText n b → Within n p × HoldsClosure p
+  closure-within c = let i = that (c .text-of) in ((omega (arith, ap nodes i, c .small), rw i at (c .text-of .ranges)), rw i at (c .closure))
+
   -- the program on standard input reads into zeros, which hold n nodes
   old-program : {j : ℕ} {written : List ℕ} → Reports n j b written → OldProgram n j p written
   old-program {j} (reported q a t) = record {
-    beyond = λ f. absurd (f (no-other (zeros n) (read q a t) refl .0));
-    within = λ w. ap (λ (x : Tree program). report (run n j (threads x))) (that t);
+    beyond = λ f. absurd (f (no-other (zeros n) (read q (accepted-before n b (zeros n) a) t) refl .0));
+    within = λ w f. ap (λ (x : Tree program). report (run n j (threads x))) (that t);
+    closure = λ w h. absurd (accepted-not-refused (operator-refusals n b (zeros n)) Closure a (closure-turned n b (zeros n) (omega arith) (closure-text w h)));
   }
-  old-program (reports.refused r i) = record {
-    beyond = λ f. (r, (met-beyond (met (zeros n) i) f, refl));
-    within = λ w. absurd (met-within (met (zeros n) i) w (omega (arith, w .0, length-replicate {A = ℕ} (2 * n) 0, length-replicate {A = ℕ} n 0)));
-  }
+  old-program (reports.refused r i) =
+      let of-the-reader : (ClosureText n b → ⊥) → Met n p (zeros n) r = λ f. met (zeros n) (refused-before n b (zeros n) r (λ q. f (turned-closure n b (zeros n) (rw q at i))) i) in
+      record {
+        beyond = λ f. (r, (met-beyond (of-the-reader (λ c. f (closure-within c .0))) f, refl));
+        within = λ w f. absurd (met-within (of-the-reader (λ c. f (closure-within c .1))) w (omega (arith, w .0, zeros-hold n)));
+        closure = λ w h. ap refusal-report (one-refusal (operator-refusals n b (zeros n)) r Closure i (closure-turned n b (zeros n) (omega arith) (closure-text w h)));
+      }
 
 pub old-leaf : (n m : ℕ) → n ≤ m → m ≤ 65536 → OldLeaf n m
 old-leaf n m l k b out v o out′ v′ o′ h′ z h = let w = read-gives h′ z in (w .program, (read-as (w .is) (w .good) out′ k (w .fits) h′, meets-old-leaf l k (w .is) (w .good) out h))

@@ -5,8 +5,9 @@ use mathlib.Core.List.{List, [], _∷_}
 use Prim.Native.Nat.{ℕ, _≤_, _<_}
 use lib.ListN.{length}
 use Rattle.calculus.specs.declared.Refusal.{Refusal}
+use Rattle.calculus.specs.declared.Refusal.the-variants.{Closure}
 use Rattle.calculus.specs.Tree.{program, Tree, nodes, threads}
-use Rattle.calculus.specs.Good.{InRange}
+use Rattle.calculus.specs.Good.{InRange, HoldsClosure}
 use Rattle.calculus.specs.Sheets.{Sheet, holds}
 use Rattle.calculus.specs.Run.{run}
 use Rattle.calculus.specs.Text.{text}
@@ -68,10 +69,11 @@ OldLeaf n m =
     (b : List ℕ) (out : Sheet) (v : Values) (o out′ : Sheet) (v′ : Values) (o′ : Sheet) → Reads m b out′ v′ o′ → v′ .refusal ≡ 0 → Reads n b out v o →
     (p : Tree program) × (ReadAs p out′ v′ o′ × MeetsOldLeaf n p out v o)
 
--- so of the program on standard input with the limit n: its report is that of 2, 5 or 7, or the run's of that very program
+-- so of the program on standard input with the limit n: its report is that of 2, 5 or 7, or the run's of that very program, or that of 15 where it holds a closure
 pub record OldProgram (n k : ℕ) (p : Tree program) (written : List ℕ) : Type 0 where
   pub beyond : (Within n p → ⊥) → (r : Refusal) × (OldRefusal (number r) × (written ≡ refusal-report r))
-  pub within : Within n p → written ≡ report (run n k (threads p))
+  pub within : Within n p → (HoldsClosure p → ⊥) → written ≡ report (run n k (threads p))
+  pub closure : Within n p → HoldsClosure p → written ≡ refusal-report Closure
 
 abbrev pub OldReport : ℕ → ℕ → Type 0
 OldReport n m = (b : List ℕ) (out : Sheet) (v : Values) (o : Sheet) → Reads m b out v o → v .refusal ≡ 0 → (k : ℕ) (written : List ℕ) → Reports n k b written → (p : Tree program) × (ReadAs p out v o × OldProgram n k p written)

@@ -1,7 +1,7 @@
 //! The cases with known ends of tests/cases, through the library at both sizes and through the evaluator. Those that name no room have that of
 //! document 01, 2,048 nodes.
 
-use mespindro::{small, Counts, Move, Reason, Refusal, Rule, Standing, Stop};
+use mespindro::{Counts, Move, Reason, Refusal, Rule, Standing, Stop};
 use mespindro_tests::calls::on_program;
 use mespindro_tests::compare::{Call, Tally};
 use mespindro_tests::evaluator::table::OwnTable;
@@ -497,68 +497,4 @@ fn every_call_answers(size: Size, name: &str, numbers: &[u16], count: usize, out
             _ => assert_eq!(answer, Some(refusal(outcome)), "{name}"),
         }
     }
-}
-
-/// What the program on standard input does with the small calls; its own bytes are tested where it is built.
-fn report(input: &[u8]) -> Vec<u8> {
-    let lengths = Lengths::for_nodes(small::NODES);
-    let (mut table, mut work) = (OwnTable::empty(lengths), OwnTable::empty(lengths));
-    let run = small::read(input, table.lent_mut())
-        .and_then(|count| small::run(table.lent_mut(), count, work.lent_mut(), 10_000));
-    let stop = match run {
-        Ok(stop) => stop,
-        Err(refusal) => {
-            let number = refusal.number().to_string();
-            return format!("(7:refused{}:{number})", number.len()).into_bytes();
-        }
-    };
-    let reason = match stop.reason {
-        Reason::Ended => "5:ended",
-        Reason::Steps => "5:steps",
-        Reason::Room => "4:room",
-    };
-    let steps = stop.steps.to_string();
-    let mut text = vec![0; small::TEXT];
-    let length = small::write(table.lent(), stop.nodes, &mut text).expect("an end is written");
-    let head = format!("({reason}{}:{steps}", steps.len());
-    [head.as_bytes(), &text[..length], b")"].concat()
-}
-
-#[test]
-fn program_on_standard_input() {
-    let endless = short::program("((a (l ((a b0 b0))) (l ((a b0 b0)))))");
-    let endless = String::from_utf8(write_text(&endless)).unwrap();
-    let bytes = "x".repeat(24_577);
-    let cases = [
-        ("()", "(5:ended1:0())"),
-        ("()\n", "(7:refused1:3)"),
-        ("", "(7:refused1:3)"),
-        (&bytes, "(7:refused1:2)"),
-        ("((1:v1:0))", "(7:refused1:6)"),
-        ("((1:x4:2048))", "(7:refused1:5)"),
-        (
-            "((1:n(1:g(1:u(1:v1:0)(1:c1:1))(1:v1:0))))",
-            "(5:ended1:3((1:c1:1)))",
-        ),
-        (
-            &endless,
-            "(5:steps5:10000((1:a(1:L1:1((1:a(1:v1:0)(1:v1:0))))(1:L1:1((1:a(1:v1:0)(1:v1:0)))))))",
-        ),
-        (
-            "((1:a(1:x4:2047)(1:n(1:v1:0))))",
-            "(5:ended1:1((1:a(1:x4:2047)(1:x1:0))))",
-        ),
-    ];
-    on_big_stack(|| {
-        for (input, output) in cases {
-            let got = String::from_utf8(report(input.as_bytes())).unwrap();
-            assert_eq!(got, output, "{input}");
-        }
-        let rule = "(l ((n (g (u (a c1 b0) b1) (a b0 b1)))))";
-        let piling = short::program(&format!("((a {rule} (a c1 {rule})))"));
-        let got = report(&write_text(&piling));
-        assert!(got.starts_with(b"(4:room4:3017((1:g(1:c1:0)(1:g(1:c1:0)"));
-        assert_eq!(got.len(), 13_249);
-    });
-    println!("standard input: {} cases", cases.len() + 1);
 }

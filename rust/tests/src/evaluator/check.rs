@@ -13,6 +13,17 @@ pub fn is_coherent(program: &[Term]) -> bool {
     program.iter().all(is_coherent_thread)
 }
 
+/// Whether an allocated abstraction stands anywhere in the program, inside any body too.
+pub fn holds_closure(program: &[Term]) -> bool {
+    let mut found = false;
+    for thread in program {
+        each_term(thread, 0, &mut |t, _| {
+            found |= matches!(t, Term::Allocated(..));
+        });
+    }
+    found
+}
+
 /// Refusals 6 and 8 on a program that has its form.
 pub fn checked(program: Program) -> Result<Program, Refusal> {
     if has_loose_index(&program) {

@@ -13,8 +13,25 @@ pub enum Expression {
 
 use Expression::{Atom, List};
 
+/// The number of a closure in an operator's text. No call gives it.
+pub const CLOSURE: u16 = 15;
+
 /// The program of a text, or refusal 2 to 8.
 pub fn read_text(size: Size, text: &[u8]) -> Result<Program, Refusal> {
+    check::checked(read_spelled(size, text)?)
+}
+
+/// The program of an operator's text, which the program on standard input takes, or the number of its refusal: 2 to 7, or 15.
+pub fn read_operators_text(text: &[u8]) -> Result<Program, u16> {
+    let program = read_spelled(Size::SMALL, text).map_err(Refusal::number)?;
+    if check::holds_closure(&program) {
+        return Err(CLOSURE);
+    }
+    Ok(program)
+}
+
+/// The program that a text spells, whether it is coherent or not, or refusal 2 to 7.
+fn read_spelled(size: Size, text: &[u8]) -> Result<Program, Refusal> {
     if text.len() > size.text() {
         return Err(Refusal::TooLong);
     }
@@ -30,7 +47,7 @@ pub fn read_text(size: Size, text: &[u8]) -> Result<Program, Refusal> {
     if program_size(&program) > size.nodes {
         return Err(Refusal::TooManyNodes);
     }
-    check::checked(program)
+    Ok(program)
 }
 
 /// The expression that the text is, exactly.

@@ -4,7 +4,8 @@ use native.Mathlib.Omega.{arith}
 use borrow.Author.Needs.{needs}
 use Rattle.calculus.specs.Answers.{Values, ranValues}
 use Rattle.small.specs.Limit.{small-limit}
-use Rattle.leaf.proofs.Calling.{zeros-hold, run-not-refused, run-few, run-holds, run-written}
+use Rattle.calculus.proofs.Reports.{zeros-hold}
+use Rattle.leaf.proofs.Calling.{run-not-refused, run-few, run-holds, run-written}
 use Rattle.leaf.proofs.report.put_run.Statement.{statement}
 use Rattle.leaf.proofs.report.put_run.Tie as tie
 
