@@ -120,7 +120,7 @@ enum {
     MESPINDRO_UNIFICATION = 10  /* parts: two terms */
 };
 
-/* Refusals. */
+/* Refusals. The program on standard input has one more, 15, a closure in an operator's text; no call gives it. */
 enum {
     MESPINDRO_ACCEPTED = 0,
     MESPINDRO_NO_PROGRAM = 1,      /* the table does not hold one program of `count` nodes within the limits of the call */

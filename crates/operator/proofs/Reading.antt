@@ -14,7 +14,10 @@ use Rattle.calculus.specs.Calls.{Accepts, put-front, TextOf, TableOf, text-refu
 use Rattle.calculus.specs.Calls as calls
 use Rattle.calculus.specs.Report.{operator-refusals}
 use Rattle.calculus.proofs.Answers.{number-positive}
-use Rattle.table.specs.Checks.{NoClosure}
+use Rattle.calculus.proofs.Refusals.{accepted-not-refused, one-refusal}
+use Rattle.calculus.proofs.Outcomes.{text-of-unique, reads-once}
+use Rattle.table.specs.Checks.{NoneAllocated}
+use Rattle.table.proofs.Allocated.{none-held, one-held}
 use Rattle.table.proofs.Verdicts.{table-stands, both-accept}
 use Rattle.promises.specs.Exactly.{Exactly}
 use Rattle.promises.specs.Worked.{HasRead}
@@ -55,17 +58,17 @@ module _ {n : ℕ} {b : List ℕ} {out : Sheet} {v : Values} {t : Sheet} (c : Re
     pub read-there : (2 * m ≤ length (t .numbers)) × (m ≤ n)
     read-there = (table-of .within, table-of .small)
 
-    module _ {r : Bool} (h : NoClosure (t .numbers) m r) where
+    module _ {r : Bool} (h : NoneAllocated (t .numbers) m r) where
       -- no closure among them: the text is accepted
       pub none-read : r ≡ true → ReadsOperators n b out (accepted m) t
       none-read e =
           let p = has-read .program in
-          let plain = plain-kept n b out text-of (h .none e p (table-stands table-of) counts) in
+          let plain = plain-kept n b out text-of (none-held h p (table-stands table-of) counts e) in
           told counts (has-read .left) (accepted-still n b out plain accepts) text-of
 
       -- one among them: it is turned away
       pub one-turned : r ≡ false → ReadsOperators n b out (refusal-values 15) t
-      one-turned e = turned-away Closure v t (turned n b out (both-accept (late-refusals n b out) (text-refusals n b) accepts .0) text-of (h .some e (has-read .program) (table-stands table-of) counts)) c
+      one-turned e = turned-away Closure v t (turned n b out (both-accept (late-refusals n b out) (text-refusals n b) accepts .0) text-of (one-held h (has-read .program) (table-stands table-of) counts e)) c
 
   -- It refuses.
   pub refusal-turned : (r q : Refusal) → v .refusal ≡ number r → n ≤ holds out → TurnedAway r q → ReadsOperators n b out (refusal-values (number q)) t
@@ -77,6 +80,13 @@ module _ {n : ℕ} {b : List ℕ} {out : Sheet} where
   pub operators-exactly : {v : Values} {t : Sheet} → ReadsOperators n b out v t → Exactly (operator-refusals n b out) (v .refusal)
   operators-exactly (read p a t) = exactly-accepted (operator-refusals n b out) a
   operators-exactly (turned-away r v t g c) = exactly-refused (operator-refusals n b out) r g
+
+  -- two outcomes that the contract allows coincide
+  pub operators-once : {v w : Values} {t u : Sheet} → ReadsOperators n b out v t → ReadsOperators n b out w u → (v ≡ w) × (t ≡ u)
+  operators-once (read p a t) (read q c s) = let e = text-of-unique t s in (ap (λ (x : Tree program). accepted (nodes x)) e, ap (λ (x : Tree program). put-front x out) e)
+  operators-once (read p a t) (turned-away r v u g c) = absurd (accepted-not-refused (operator-refusals n b out) r a g)
+  operators-once (turned-away r v u g c) (read p a t) = absurd (accepted-not-refused (operator-refusals n b out) r a g)
+  operators-once (turned-away r v t g c) (turned-away q w u h d) = (ap (λ (x : Refusal). refusal-values (number x)) (one-refusal (operator-refusals n b out) r q g h), reads-once c d .1)
 
   -- an accepted read is one of the library's
   pub accepted-plain : {v : Values} {t : Sheet} → ReadsOperators n b out v t → v .refusal ≡ 0 → Reads n b out v t

@@ -1,5 +1,4 @@
 // Reading an operator's text, for the program on standard input: as the library's small read does, but for 15 where the text holds a closure.
-ghost use mathlib.Core.Path.{_≡_};
 ghost use Prim.Native.Nat.{_≤_};
 ghost use Rattle.calculus.specs.Answers.{countedValues};
 ghost use Rattle.calculus.specs.Sheets.{sheet, holds};

@@ -1,6 +1,7 @@
 -- Where the allocated abstractions of a tree stand in a table.
 use mathlib.Core.Path.{_≡_, refl, sym, ap, _∙_}
 use mathlib.Core.Logic.{inl, inr, ⊎-elim}
+use mathlib.Core.Bool.{Bool, true, false}
 use mathlib.Core.List.{List}
 use Prim.Native.Nat.{ℕ, _+_, _*_, _≤_, _<_}
 use native.Mathlib.Omega.{arith}
@@ -10,11 +11,11 @@ use lib.Dec.{eqb}
 use lib.ListN.{length}
 use borrow.Author.Tests.{eqb-true, eqb-false}
 use Rattle.calculus.specs.Tree.{Sort, term, program, Head, code, at, Tree, empty, alt, bound, free, con, abs, fresh, two, preorder, nodes}
-use Rattle.calculus.specs.Good.{HeadInRange, InRange, Here, Holds}
+use Rattle.calculus.specs.Good.{HeadInRange, InRange, Here, Holds, HoldsClosure}
 use Rattle.calculus.proofs.Preorders.{preorder-length}
 use Rattle.calculus.proofs.Preservation.{Among}
 use Rattle.table.specs.Nodes.{kindAt, numberAt, NodeIs, Stands}
-use Rattle.table.specs.Checks.{IsThread, NoClosure}
+use Rattle.table.specs.Checks.{IsThread, NoneAllocated}
 use Rattle.table.proofs.Positions.{NodeWith}
 use Rattle.table.proofs.Trees.{Seen, see, IsBody, term-at, program-at, moved, at-front}
 
@@ -142,6 +143,16 @@ met-in-range {n} {part} {i} {l} t b m = let h = met-held part (t .thread) (t .is
 pub met-here : {part : List ℕ} {i k l : ℕ} (j : ℕ) → NodeIs part i k l → k ≡ 6 → i < j → Met part j l
 met-here {i} j r e b = record { node = i; below = b; kind-is = sym (r .kind-is) ∙ e; number-is = sym (r .number-is) }
 
+-- What the pass over the nodes tells of a program that they are.
+module _ {t : List ℕ} {count : ℕ} {r : Bool} (h : NoneAllocated t count r) (p : Tree program) (w : Stands t 0 p) (e : nodes p ≡ count) where
+  -- where it found none, none is held
+  pub none-held : r ≡ true → HoldsClosure p → ⊥
+  none-held f k = let c = holds-stands t (k .0) (k .1 .0) 0 p w (k .1 .1) .closure in h .none f (c .node) (omega (arith, c .below)) (c .kind-is)
+
+  -- where it found one, one is
+  pub one-held : r ≡ false → HoldsClosure p
+  one-held f = let (k, (b, is)) = h .some f in let c = stands-held t k is 0 p w (omega arith) (omega arith) in (_, (c .body, c .holds))
+
 -- On the way along the nodes: none is allocated of those before i,
 pub record NonePassed (t : List ℕ) (i : ℕ) : Type 0 where
   pub none : (k : ℕ) → k < i → kindAt t k ≡ 6 → ⊥
@@ -160,21 +171,17 @@ none-yet t = record { none = λ k b. absurd (omega arith) }
 pub none-more : {t : List ℕ} {i k m : ℕ} → NonePassed t i → NodeIs t i k m → (k ≡ 6 → ⊥) → NonePassed t (i + 1)
 none-more {i} f q c = record { none = λ j b s. let h : j ≤ i = omega arith in ⊎-elim (λ (e : j ≡ i). c (q .kind-is ∙ rw (← e) s)) (λ l. f .none j l s) (eq-or-lt-of-le h) }
 
--- the node that was read is one
-pub one-here : {t : List ℕ} {i k m : ℕ} → NodeIs t i k m → k ≡ 6 → OnePassed t (i + 1)
-one-here {i = i} q e = record { node = i; before = omega arith; kind-is = sym (q .kind-is) ∙ e }
+-- one that is
+pub one-more : {t : List ℕ} {i k m : ℕ} → NodeIs t i k m → k ≡ 6 → OnePassed t (i + 1)
+one-more {i = i} q e = record { node = i; before = omega arith; kind-is = sym (q .kind-is) ∙ e }
 
 -- what was passed stays so
 pub one-still : {t : List ℕ} {i : ℕ} → OnePassed t i → OnePassed t (i + 1)
 one-still o = record { node = o .node; before = omega (arith, o .before); kind-is = o .kind-is }
 
--- behind the last, what was counted tells what the program holds
-pub passed-told : {t : List ℕ} {i count found : ℕ} → count ≤ i → i ≤ count → (found ≡ 0 → NonePassed t i) → (0 < found → OnePassed t i) → NoClosure t count (eqb found 0)
-passed-told {t} {found = found} h l f g = record {
-  none = λ e p w s k. let c = holds-stands t (k .0) (k .1 .0) 0 p w (k .1 .1) .closure in f (eqb-true found 0 e) .none (c .node) (omega (arith, c .below)) (c .kind-is);
-  some = λ e p w s.
-      let some : found ≡ 0 → ⊥ = eqb-false found 0 e in
-      let o = g (omega arith) in
-      let k = stands-held t (o .node) (o .kind-is) 0 p w (omega arith) (omega (arith, o .before)) in
-      (_, (k .body, k .holds));
+-- behind the last, what was counted tells
+pub passed-told : {t : List ℕ} {i count found : ℕ} → count ≤ i → i ≤ count → (found ≡ 0 → NonePassed t i) → (0 < found → OnePassed t i) → NoneAllocated t count (eqb found 0)
+passed-told {found = found} h l f g = record {
+  none = λ e k b. f (eqb-true found 0 e) .none k (omega arith);
+  some = λ e. let some : found ≡ 0 → ⊥ = eqb-false found 0 e in let o = g (omega arith) in (o .node, (omega (arith, o .before), o .kind-is));
 }

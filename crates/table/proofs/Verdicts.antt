@@ -18,11 +18,12 @@ use Rattle.calculus.proofs.Outcomes.{table-of-unique}
 use Rattle.calculus.proofs.Preorders.{nodes-positive}
 use Rattle.calculus.proofs.Closures.{plain-coherent}
 use Rattle.table.specs.Nodes.{Stands}
-use Rattle.table.specs.Checks.{walkedNumber, Walks, nothing, loose, scoped, OneBody, ProgramIn, ThreadsAgree, NoClosure, in-force, checkedNumber, Checks, admitted, refused}
+use Rattle.table.specs.Checks.{walkedNumber, Walks, nothing, loose, scoped, OneBody, ProgramIn, ThreadsAgree, NoneAllocated, in-force, checkedNumber, Checks, admitted, refused}
 use Rattle.table.specs.declared.Walked.{Walked}
 use Rattle.table.specs.declared.Walked.the-variants.{NoProgram, Loose, Scoped}
 use Rattle.table.specs.declared.Checked.{Checked}
 use Rattle.table.specs.declared.Checked.the-variants.{Admitted, Refused}
+use Rattle.table.proofs.Allocated.{none-held}
 use Rattle.table.proofs.Scopes.{Within, scoped-closed, closed-scoped, within-threads, threads-within}
 
 -- with scratch enough the limit that the caller asks for is in force
@@ -154,8 +155,8 @@ module _ {n : ℕ} {t : List ℕ} {count : ℕ} (c : ClosedIn n t count) where
       admitted this h (record { small = omega (arith, h .counts, h .small); ranges = h .ranges; closed = c .closed; coherent = k }) (there, (closed-all, (coherent-all k, tt)))
 
   -- it holds no allocated abstraction
-  pub none-coherent : {b : Bool} → b ≡ true → NoClosure t count b → Checks n t count 0
-  none-coherent e f = let h = c .table-of in coherent-admitted (plain-coherent this (f .none e this (table-stands h) (h .counts)))
+  pub none-coherent : {b : Bool} → b ≡ true → NoneAllocated t count b → Checks n t count 0
+  none-coherent e f = let h = c .table-of in coherent-admitted (plain-coherent this (none-held f this (table-stands h) (h .counts) e))
 
   -- neither
   pub all-coherent : {r : Walked} {b : Bool} → r ≡ Scoped → Walks n true t count (walkedNumber true r) → b ≡ true → ThreadsAgree t b → Checks n t count 0

@@ -4,12 +4,12 @@ use mathlib.Core.Bool.{Bool, true, false, cond}
 use mathlib.Core.List.{List}
 use Prim.Native.Nat.{ℕ, suc, _-_, _≤_, _<_, min}
 use Rattle.calculus.specs.Tree.{Sort, term, program, Head, code, at, Tree, empty, alt, bound, free, con, abs, fresh, two, preorder, nodes, threads}
-use Rattle.calculus.specs.Good.{InRange, Holds, HoldsClosure, All, Good}
+use Rattle.calculus.specs.Good.{InRange, Holds, All, Good}
 use Rattle.calculus.specs.Calls.{Accepts, Refuses, TableOf, plain-refusals}
 use Rattle.calculus.specs.Answers.{number}
 use Rattle.calculus.specs.declared.Refusal.{Refusal}
 use Rattle.calculus.specs.declared.Refusal.the-variants as refusal
-use Rattle.table.specs.Nodes.{Stands}
+use Rattle.table.specs.Nodes.{kindAt, Stands}
 use Rattle.table.specs.declared.Walked.{Walked}
 use Rattle.table.specs.declared.Walked.the-variants.{NoProgram, Loose, Scoped}
 use Rattle.table.specs.declared.Checked.{Checked}
@@ -74,10 +74,10 @@ pub record ThreadsAgree (t : List ℕ) (r : Bool) : Type 0 where
   pub agree : r ≡ true → (p : Tree program) → Stands t 0 p → All OneBody (threads p)
   pub differ : r ≡ false → (p : Tree program) → Stands t 0 p → All OneBody (threads p) → ⊥
 
--- whether the program that the first nodes are holds no allocated abstraction
-pub record NoClosure (t : List ℕ) (count : ℕ) (r : Bool) : Type 0 where
-  pub none : r ≡ true → (p : Tree program) → Stands t 0 p → nodes p ≡ count → HoldsClosure p → ⊥
-  pub some : r ≡ false → (p : Tree program) → Stands t 0 p → nodes p ≡ count → HoldsClosure p
+-- whether no allocated abstraction stands among the first nodes
+pub record NoneAllocated (t : List ℕ) (count : ℕ) (r : Bool) : Type 0 where
+  pub none : r ≡ true → (k : ℕ) → k < count → kindAt t k ≡ 6 → ⊥
+  pub some : r ≡ false → (k : ℕ) × ((k < count) × (kindAt t k ≡ 6))
 
 -- the limit in force: what the caller asks for, as far as 16-bit numbers and the lent scratch serve
 abbrev pub in-force : ℕ → ℕ → ℕ

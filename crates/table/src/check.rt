@@ -2,7 +2,7 @@
 ghost use mathlib.Core.Path.{_≡_};
 ghost use Prim.Native.Nat.{_*_, _≤_, _<_, min};
 ghost use lib.ListN.{length};
-ghost use Rattle.table.specs.Checks.{in-force, checkedNumber, Checks, NoClosure};
+ghost use Rattle.table.specs.Checks.{in-force, checkedNumber, Checks, NoneAllocated};
 use crate::Checked;
 use crate::Walked;
 use crate::closures::threads_agree;
@@ -28,12 +28,11 @@ fn limit_in_force(limit: usize, scratch: usize) -> usize
     least(least(limit, 32766), scratch - 2)
 }
 
-// Whether the program that the first nodes are holds no allocated abstraction. It counts and does not stop early: such a loop is done several nodes at a
-// time.
+// Whether no allocated abstraction stands among the first nodes. It counts and does not stop early: such a loop is done several nodes at a time.
 pub fn none_allocated(t: &[u16], count: usize) -> bool
     requires { ⌜ 2 * count ≤ length (now t) ⌝ }
     requires { ⌜ count < 65536 ⌝ }
-    ensures { λ r. ⌜ NoClosure (now (t .entry)) count r ⌝ }
+    ensures { λ r. ⌜ NoneAllocated (now (t .entry)) count r ⌝ }
 {
     let mut found: u16 = 0;
     let mut i: usize = 0;

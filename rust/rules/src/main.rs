@@ -23,7 +23,7 @@ rules show FILE [NAMES]                  the canonical text in FILE as readable 
 rules run [--trace] [--html PAGE] FILE   runs either form for at most 10,000 steps and tells how it ends
     --trace        tells each step, on lines of at most COLUMNS characters (80 if that is not set, and never less than 40)
     --html PAGE    writes the run as a picture: one page that needs nothing else
-    a rule set that a small leaf takes is run in 2,048 nodes, as there, and any other in 16,384
+    a rule set that the small calls take is run in 2,048 nodes, as there, and any other in 16,384
 ";
 
 /// Nested programs are worked by functions that call themselves.

@@ -36,7 +36,7 @@ impl RuleSet {
         Ok(RuleSet { program, names })
     }
 
-    /// The nodes that it is run in: as many as a small leaf has, or, where that does not take it, as many as the library has.
+    /// The nodes that it is run in: as many as the small calls have, or, where those do not take it, as many as the library has.
     pub fn room(&self) -> usize {
         let mut leaf = Memory::zeros(small::NODES);
         match small::read(&self.text(), leaf.table_mut()) {

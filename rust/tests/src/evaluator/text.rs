@@ -27,7 +27,7 @@ pub fn read_operators_text(text: &[u8]) -> Result<Program, u16> {
     if check::holds_closure(&program) {
         return Err(CLOSURE);
     }
-    Ok(program)
+    check::checked(program).map_err(Refusal::number)
 }
 
 /// The program that a text spells, whether it is coherent or not, or refusal 2 to 7.

@@ -3,7 +3,7 @@ use mathlib.Core.Path.{_≡_}
 use mathlib.Core.Logic.{⊎-elim}
 use Prim.Native.Nat.{_-_, _≤_, _<_}
 use native.Mathlib.Omega.{arith}
-use Rattle.table.proofs.Allocated.{NonePassed, OnePassed, none-yet, none-more, one-here, one-still, passed-told}
+use Rattle.table.proofs.Allocated.{NonePassed, OnePassed, none-yet, none-more, one-more, one-still, passed-told}
 use Rattle.table.proofs.check.none_allocated.Statement.{statement}
 use Rattle.table.proofs.check.none_allocated.Tie as tie
 
@@ -32,7 +32,7 @@ loop-again : tie.Need-loop-again Inv-loop μ-loop
 loop-again c =
     let h = c .before .before .before .before .loop .inv in
     ⊎-elim
-    (λ w. (omega (arith, w .1), (omega arith, ((λ z. absurd (omega (arith, w .1))), λ z. one-here (c .before .before .node-at .ensures) (w .0 .taken)))))
+    (λ w. (omega (arith, w .1), (omega arith, ((λ z. absurd (omega (arith, w .1))), λ z. one-more (c .before .before .node-at .ensures) (w .0 .taken)))))
     (λ w. (omega (arith, w .1), (omega arith, ((λ z. none-more (h .1 .1 .0 (omega (arith, w .1))) (c .before .before .node-at .ensures) (w .0 .left)), λ z. one-still (h .1 .1 .1 (omega (arith, w .1)))))))
     (c .if1 .came)
 
