@@ -42,8 +42,8 @@ module _ {n k : ℕ} {b : List ℕ} where
   eight-reported h = refused Closure (eight-turned n b (zeros n) (omega (arith, zeros-hold n)) (written-given (read-refusals n b (zeros n)) Incoherent refl h))
 
   -- and what was refused with another number still is
-  pub refusal-reported : (r : Refusal) → (r ≡ Incoherent → ⊥) → ReportsBefore n k b (refusal-report r) → Reports n k b (refusal-report r)
-  refusal-reported r f h = refused r (turned-refused n b (zeros n) (omega (arith, zeros-hold n)) r r (record { incoherent = λ e. absurd (f e); other = λ g. refl }) (written-given (read-refusals n b (zeros n)) r refl h))
+  pub refusal-stays : (r : Refusal) → (r ≡ Incoherent → ⊥) → ReportsBefore n k b (refusal-report r) → Reports n k b (refusal-report r)
+  refusal-stays r f h = refused r (turned-refused n b (zeros n) (omega (arith, zeros-hold n)) r r (record { incoherent = λ e. absurd (f e); other = λ g. refl }) (written-given (read-refusals n b (zeros n)) r refl h))
 
   -- Where it is not of a closure,
   module _ (f : ClosureText n b → ⊥) where
