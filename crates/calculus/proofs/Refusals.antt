@@ -1,7 +1,7 @@
 -- The refusals of each call: which numbers, and which of those that apply is given.
 use mathlib.Core.Path.{_≡_, refl, sym, ap, _∙_}
-use mathlib.Core.Logic.{_⊎_, inl, inr}
-use mathlib.Core.List.{List, [], _∷_}
+use mathlib.Core.Logic.{_⊎_, inl, inr, ⊎-elim}
+use mathlib.Core.List.{List, [], _∷_, _++_}
 use Prim.Native.Nat.{ℕ, _≤_, _<_}
 use native.Mathlib.Omega.{arith}
 use Rattle.calculus.specs.declared.Refusal.{Refusal}
@@ -86,6 +86,17 @@ pub not-above : (cs : Refusals) (k : ℕ) → Below k cs → Applies cs k → �
 not-above [] k a h = absurd h
 not-above (c ∷ cs) k a (inl h) = omega (arith, a .0, h .0)
 not-above (c ∷ cs) k a (inr h) = not-above cs k (a .1) h
+
+-- of a list with more behind it, a condition is one of the first or one of the others
+pub applies-either : (cs ds : Refusals) (m : ℕ) → Applies (cs ++ ds) m → Applies cs m ⊎ Applies ds m
+applies-either [] ds m h = inr h
+applies-either (c ∷ cs) ds m (inl h) = inl (inl h)
+applies-either (c ∷ cs) ds m (inr h) = ⊎-elim (λ k. inl (inr k)) inr (applies-either cs ds m h)
+
+-- one of the others is one of all
+pub applies-late : (cs ds : Refusals) (m : ℕ) → Applies ds m → Applies (cs ++ ds) m
+applies-late [] ds m h = h
+applies-late (c ∷ cs) ds m h = inr (applies-late cs ds m h)
 
 -- What is given where the list ascends behind 1 and 14. 1 goes before all:
 pub one-first : (cs : Refusals) (r : Refusal) → AscendsBehind cs → Refuses cs r → Applies cs 1 → number r ≡ 1

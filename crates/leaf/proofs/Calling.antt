@@ -7,7 +7,7 @@ use lib.ListN.{length, getD, drop, length-append, length-replicate}
 use Rattle.calculus.specs.declared.Reason.{Reason}
 use Rattle.calculus.specs.declared.Counts.{Counts}
 use Rattle.calculus.specs.declared.Refusal.{Refusal}
-use Rattle.calculus.specs.Tree.{term, Tree, nodes, threads, program-of}
+use Rattle.calculus.specs.Tree.{term, Tree, threads, program-of}
 use Rattle.calculus.specs.Sheets.{Sheet, holds}
 use Rattle.calculus.specs.Run.{End, run, room-of}
 use Rattle.calculus.specs.Tally.{run-counts}
@@ -21,10 +21,10 @@ use Rattle.writing.specs.Writer.{numeral, Wrote}
 use Rattle.promises.proofs.Admitted.{accepted}
 use Rattle.small.specs.Limit.{small-limit}
 use Rattle.promises.specs.Worked.{Held, HasRead, HasRun}
-use Rattle.promises.proofs.Worked.{read-gives, run-gives, good-runs}
+use Rattle.promises.proofs.Worked.{run-gives, good-runs}
 use Rattle.promises.proofs.Refused.{read-length}
 use Rattle.operator.specs.Operator.{ReadsOperators}
-use Rattle.operator.proofs.Reading.{operators-exactly, accepted-plain}
+use Rattle.operator.proofs.Reading.{has-read, read-held, operators-exactly, accepted-plain}
 use Rattle.leaf.specs.Reported.{most, longest, Reported}
 use Rattle.leaf.specs.Written.{HoldsGood, Loaded, EndWritten, RunWritten}
 use Rattle.leaf.proofs.Stores.{wrote-front}
@@ -89,19 +89,13 @@ module _ {b : List ℕ} {v : Values} {t : Sheet} (c : ReadsOperators small-limit
     plain : Reads small-limit b (zeros small-limit) v t
     plain = accepted-plain c (ap (λ (x : Values). x .refusal) f)
 
-    has-read : HasRead small-limit b (zeros small-limit) v t
-    has-read = read-gives plain (ap (λ (x : Values). x .refusal) f)
-
-    counts : nodes (has-read .program) ≡ m
-    counts = ap (λ (l : List ℕ). getD l 0 0) (sym (has-read .values) ∙ ap (λ (x : Values). x .values) f)
-
-    read-there : Held small-limit t m (has-read .program)
-    read-there = rw counts at (has-read .back)
+    abbrev what : HasRead small-limit b (zeros small-limit) v t
+    what = has-read plain f
 
     -- the table holds a good program
     pub read-loaded : Loaded small-limit t m
     read-loaded = record {
-      good-there = record { program-there = has-read .program; held = read-there; good = has-read .good };
+      good-there = record { program-there = what .program; held = read-held plain f; good = what .good };
       wide = read-length plain .0 ∙ length-replicate {A = ℕ} (2 * small-limit) 0;
       long = read-length plain .1 ∙ length-replicate {A = ℕ} small-limit 0;
     }
@@ -109,11 +103,11 @@ module _ {b : List ℕ} {v : Values} {t : Sheet} (c : ReadsOperators small-limit
     -- the report of its run is the text's
     pub run-reported : {out after : List ℕ} {next : ℕ} → RunWritten small-limit most (t .numbers) m out after next → Reported small-limit most b out next after
     run-reported {out} {after} {next} w =
-        let p = has-read .program in
-        let u = w .wrote p (read-there .table-of) in
+        let p = what .program in
+        let u = w .wrote p (read-held plain f .table-of) in
         record {
           written = report (run small-limit most (threads p));
-          reports = reported p (operators-exactly c .accepted-only (ap (λ (x : Values). x .refusal) f)) (record { is = has-read .is; ranges = has-read .good .ranges });
+          reports = reported p (operators-exactly c .accepted-only (ap (λ (x : Values). x .refusal) f)) (record { is = what .is; ranges = what .good .ranges });
           counts = omega (arith, u);
           is = wrote-front u (w .fits);
         }

@@ -2,25 +2,26 @@
 use mathlib.Core.Path.{_≡_, sym, ap, _∙_}
 use mathlib.Core.Bool.{Bool, true, false}
 use mathlib.Core.List.{List, [], _∷_}
-use Prim.Native.Nat.{ℕ, _*_, _≤_}
+use Prim.Native.Nat.{ℕ, _≤_}
 use native.Mathlib.Omega.{arith}
-use lib.ListN.{length, getD}
+use lib.ListN.{getD}
 use Rattle.calculus.specs.declared.Refusal.{Refusal}
 use Rattle.calculus.specs.declared.Refusal.the-variants.{Closure}
 use Rattle.calculus.specs.Tree.{program, Tree, nodes}
 use Rattle.calculus.specs.Sheets.{Sheet, holds}
 use Rattle.calculus.specs.Answers.{number, Values}
-use Rattle.calculus.specs.Calls.{Accepts, put-front, TextOf, TableOf, text-refusals, late-refusals, read-refusals, Reads}
+use Rattle.calculus.specs.Calls.{Accepts, put-front, TextOf, text-refusals, late-refusals, read-refusals, Reads}
 use Rattle.calculus.specs.Calls as calls
 use Rattle.calculus.specs.Report.{operator-refusals}
 use Rattle.calculus.proofs.Answers.{number-positive}
 use Rattle.calculus.proofs.Refusals.{accepted-not-refused, one-refusal}
 use Rattle.calculus.proofs.Outcomes.{text-of-unique, reads-once}
+use Rattle.table.specs.Nodes.{Stands}
 use Rattle.table.specs.Checks.{NoneAllocated}
 use Rattle.table.proofs.Allocated.{none-held, one-held}
 use Rattle.table.proofs.Verdicts.{table-stands, both-accept}
 use Rattle.promises.specs.Exactly.{Exactly}
-use Rattle.promises.specs.Worked.{HasRead}
+use Rattle.promises.specs.Worked.{Held, HasRead}
 use Rattle.promises.proofs.Admitted.{accepted}
 use Rattle.promises.proofs.Worked.{read-gives}
 use Rattle.promises.proofs.Refused.{reads-exactly, exactly-accepted, exactly-refused}
@@ -39,7 +40,8 @@ told {p = p} e f a t = rw (← e, f) (read p a t)
 module _ {n : ℕ} {b : List ℕ} {out : Sheet} {v : Values} {t : Sheet} (c : Reads n b out v t) where
   -- It accepts: m nodes are counted.
   module _ {m : ℕ} (f : v ≡ accepted m) where
-    has-read : HasRead n b out v t
+    -- what it has read
+    pub has-read : HasRead n b out v t
     has-read = read-gives c (ap (λ (x : Values). x .refusal) f)
 
     counts : nodes (has-read .program) ≡ m
@@ -51,24 +53,24 @@ module _ {n : ℕ} {b : List ℕ} {out : Sheet} {v : Values} {t : Sheet} (c : Re
     accepts : Accepts (read-refusals n b out)
     accepts = reads-exactly c .accepted-only (ap (λ (x : Values). x .refusal) f)
 
-    table-of : TableOf n (t .numbers) m (has-read .program)
-    table-of = rw counts at (has-read .back .table-of)
+    -- they stand in the table, with their column
+    pub read-held : Held n t m (has-read .program)
+    read-held = rw counts at (has-read .back)
 
-    -- they stand in the table, and are within the limit
-    pub read-there : (2 * m ≤ length (t .numbers)) × (m ≤ n)
-    read-there = (table-of .within, table-of .small)
+    stands : Stands (t .numbers) 0 (has-read .program)
+    stands = table-stands (read-held .table-of)
 
     module _ {r : Bool} (h : NoneAllocated (t .numbers) m r) where
       -- no closure among them: the text is accepted
       pub none-read : r ≡ true → ReadsOperators n b out (accepted m) t
       none-read e =
           let p = has-read .program in
-          let plain = plain-kept n b out text-of (none-held h p (table-stands table-of) counts e) in
+          let plain = plain-kept n b out text-of (none-held h p stands counts e) in
           told counts (has-read .left) (accepted-still n b out plain accepts) text-of
 
       -- one among them: it is turned away
       pub one-turned : r ≡ false → ReadsOperators n b out (refusal-values 15) t
-      one-turned e = turned-away Closure v t (turned n b out (both-accept (late-refusals n b out) (text-refusals n b) accepts .0) text-of (one-held h (has-read .program) (table-stands table-of) counts e)) c
+      one-turned e = turned-away Closure v t (turned n b out (both-accept (late-refusals n b out) (text-refusals n b) accepts .0) text-of (one-held h (has-read .program) stands counts e)) c
 
   -- It refuses.
   pub refusal-turned : (r q : Refusal) → v .refusal ≡ number r → n ≤ holds out → TurnedAway r q → ReadsOperators n b out (refusal-values (number q)) t

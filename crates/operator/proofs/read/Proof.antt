@@ -3,7 +3,7 @@ use mathlib.Core.Path.{ap}
 use native.Mathlib.Omega.{arith}
 use borrow.Author.Needs.{needs}
 use Rattle.calculus.specs.Answers.{Values, countedValues}
-use Rattle.operator.proofs.Reading.{read-there, none-read, one-turned, refusal-turned}
+use Rattle.operator.proofs.Reading.{read-held, none-read, one-turned, refusal-turned}
 use Rattle.operator.proofs.read.Statement.{statement}
 use Rattle.operator.proofs.read.Tie as tie
 
@@ -16,7 +16,8 @@ enum-known-n c = search needs
 none-allocated-requires : tie.Need-none-allocated-requires
 none-allocated-requires c κs =
     let n = c .before .before in
-    omega (arith, read-there (n .before .before .before .before .before .before .read .ensures) (ap countedValues (n .n .given .1)))
+    let h = read-held (n .before .before .before .before .before .before .read .ensures) (ap countedValues (n .n .given .1)) .table-of in
+    omega (arith, h .within, h .small)
 
 enum-known-r : tie.Need-enum-known-r
 enum-known-r c = search needs
