@@ -1,4 +1,6 @@
 // Answers as C sees them: structs of numbers. What the fields mean stands in include/mespindro.h.
+#![tactic(auto)]
+
 ghost use Rattle.std.specs.Prelude.{◌≡◌};
 ghost use Rattle.calculus.specs.Answers.{counted_values, ran_values, stepped_values, stood_values};
 ghost use Rattle.answers.specs.Structs.{count_values, move_values, stand_values, stop_values};
@@ -9,7 +11,7 @@ use calculus::{
 
 // How many nodes or bytes stand at the front of the output; 0 and a refusal's number.
 #[repr(C)]
-#[derive(Drop)]
+#[derive(Clone, Copy)]
 pub struct Count {
     pub count: usize,
     pub refusal: u16,
@@ -17,7 +19,7 @@ pub struct Count {
 
 // What a step made: the nodes of the new program, by which rule, in which thread; zeros and a refusal's number.
 #[repr(C)]
-#[derive(Drop)]
+#[derive(Clone, Copy)]
 pub struct Move {
     pub nodes: usize,
     pub thread: u32,
@@ -27,7 +29,7 @@ pub struct Move {
 
 // Why a run stopped, the nodes it left, the steps taken and how many each rule made; zeros and a refusal's number.
 #[repr(C)]
-#[derive(Drop)]
+#[derive(Clone, Copy)]
 pub struct Stop {
     pub nodes: usize,
     pub steps: u32,
@@ -38,7 +40,7 @@ pub struct Stop {
 
 // How a thread stands; or a refusal's number.
 #[repr(C)]
-#[derive(Drop)]
+#[derive(Clone, Copy)]
 pub struct Stand {
     pub standing: u16,
     pub refusal: u16,
@@ -46,7 +48,7 @@ pub struct Stand {
 
 // A part of the table: its first number, and how many numbers.
 #[repr(C)]
-#[derive(Drop)]
+#[derive(Clone, Copy)]
 pub struct Part {
     pub start: usize,
     pub length: usize,

@@ -1,16 +1,18 @@
 // Rivest's canonical form over bytes: a cursor that takes one item after another, and whether a text is one expression.
+#![tactic(auto)]
+
 ghost use Rattle.std.specs.Prelude.{◌≡◌, ◌+◌, ◌-◌, ◌*◌, ◌^◌, ◌<◌, ◌≤◌, length, get_or};
 ghost use Rattle.csexp.specs.Items.{Takes, TakesNumber, taken_number, OneExpression};
 ghost use Rattle.csexp.specs.Lengths.{Digit, LengthKept};
 
 // The reading place. A reader that has taken one item hands its place on to the next.
-#[derive(Drop)]
+#[derive(Clone, Copy)]
 pub struct Cursor {
     pub at: usize,
 }
 
 // A bracket, or an atom: where its bytes begin, and how many there are.
-#[derive(Drop)]
+#[derive(Clone, Copy)]
 pub enum Item {
     Open,
     Close,
@@ -18,7 +20,7 @@ pub enum Item {
 }
 
 // What a cursor finds: an item and the next cursor; the text ends within an item; or a byte at a place can't begin or continue one.
-#[derive(Drop)]
+#[derive(Clone, Copy)]
 pub enum Taken {
     Next(Item, Cursor),
     Cut,

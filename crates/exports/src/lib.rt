@@ -1,4 +1,6 @@
 // The six calls for 16,384 nodes as C sees them: slices are a pointer and a length, answers are structs of numbers.
+#![tactic(auto)]
+
 ghost use Rattle.calculus.specs.Sheets.{sheet};
 ghost use Rattle.calculus.specs.Calls.{Reads, RunsWith, StandsAt, StepsInto, Writes};
 ghost use Rattle.threads.specs.Places.{SpanOf};

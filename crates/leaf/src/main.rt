@@ -1,4 +1,6 @@
 // The program on standard input: reads and writes. What it writes for an input is `report_input`.
+#![tactic(auto)]
+
 mod report;
 
 use libc::{STDIN_FILENO, STDOUT_FILENO};

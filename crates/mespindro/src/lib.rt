@@ -1,4 +1,6 @@
 // What a switch OS calls: six calls without a `requires`, for the node limit of 16,384. The scratch is theirs, on the stack.
+#![tactic(auto)]
+
 ghost use Rattle.calculus.specs.Answers.{counted_values, ran_values, stepped_values, stood_values};
 ghost use Rattle.calculus.specs.Sheets.{sheet};
 ghost use Rattle.calculus.specs.Calls.{Reads, RunsWith, StandsAt, StepsInto, Writes};

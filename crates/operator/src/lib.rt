@@ -1,4 +1,6 @@
 // Reading an operator's text, for the program on standard input: as the library's small read does, but for 15 where the text holds a closure.
+#![tactic(auto)]
+
 ghost use Rattle.std.specs.Prelude.{◌≤◌};
 ghost use Rattle.calculus.specs.Answers.{counted_values};
 ghost use Rattle.calculus.specs.Sheets.{sheet, holds};

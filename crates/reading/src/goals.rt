@@ -15,7 +15,7 @@ pub const CLOSE: u8 = 3;
 pub const CLOSE_BINDER: u8 = 4;
 
 // Where the next goal stands, and the binders around it: as many as the goals that end one.
-#[derive(Drop)]
+#[derive(Clone, Copy)]
 pub struct Waiting {
     pub top: usize,
     pub binders: usize,

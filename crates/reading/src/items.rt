@@ -5,7 +5,7 @@ use crate::reader::item_from;
 use csexp::{Cursor, Item, Taken};
 
 // Where a bracket leads: behind it, or it is not there.
-#[derive(Drop)]
+#[derive(Clone, Copy)]
 pub enum Found {
     No,
     Behind(Cursor),
@@ -36,7 +36,7 @@ pub fn close_at(s: &[u8], c: Cursor) -> Found
 }
 
 // An atom: where its bytes begin, how many there are, and the cursor behind it.
-#[derive(Drop)]
+#[derive(Clone, Copy)]
 pub enum Atomic {
     No,
     Of(usize, usize, Cursor),
@@ -54,7 +54,7 @@ pub fn atom_at(s: &[u8], c: Cursor) -> Atomic
 }
 
 // A term's opening bracket and its tag of one byte.
-#[derive(Drop)]
+#[derive(Clone, Copy)]
 pub enum Tag {
     No,
     Is(u8, Cursor),

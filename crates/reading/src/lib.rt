@@ -1,4 +1,6 @@
 // Text to table.
+#![tactic(auto)]
+
 pub mod goals;
 pub mod items;
 pub mod numbers;
@@ -8,7 +10,7 @@ pub mod reader;
 
 // What a parse of a whole text finds: it is not in the grammar (4); an N is no plain decimal in range (5); an index has no binder (6);
 // or a program of so many nodes.
-#[derive(Drop)]
+#[derive(Clone, Copy)]
 pub enum Parsed {
     Out,
     Bad,

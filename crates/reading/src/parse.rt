@@ -16,7 +16,7 @@ use table::kinds::{
 use table::nodes::put_node;
 
 // What a descent has met: the nodes, and whether an N was bad or an index without its binder.
-#[derive(Drop)]
+#[derive(Clone, Copy)]
 pub struct Met {
     pub nodes: usize,
     pub bad: bool,
@@ -24,14 +24,14 @@ pub struct Met {
 }
 
 // Outside the grammar, or so far.
-#[derive(Drop)]
+#[derive(Clone, Copy)]
 pub enum Descent {
     Out,
     To(Cursor, Met),
 }
 
 // The same of a turn, and what waits.
-#[derive(Drop)]
+#[derive(Clone, Copy)]
 pub enum Turn {
     Out,
     To(Cursor, Met, Waiting),

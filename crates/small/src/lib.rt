@@ -1,4 +1,6 @@
 // The six calls for the node limit of 2,048: a task with little stack calls these, and so does the program on standard input.
+#![tactic(auto)]
+
 ghost use Rattle.calculus.specs.Answers.{counted_values, ran_values, stepped_values, stood_values};
 ghost use Rattle.calculus.specs.Sheets.{sheet};
 ghost use Rattle.calculus.specs.Calls.{Reads, RunsWith, StandsAt, StepsInto, Writes};

@@ -1,4 +1,6 @@
 // The six calls for 2,048 nodes as C sees them. They are a crate of their own so that their machine code is made for this size alone: it then takes the least stack.
+#![tactic(auto)]
+
 ghost use Rattle.calculus.specs.Sheets.{sheet};
 ghost use Rattle.calculus.specs.Calls.{Reads, RunsWith, StandsAt, StepsInto, Writes};
 ghost use Rattle.threads.specs.Places.{SpanOf};

@@ -1,4 +1,6 @@
 // The node table: two 16-bit numbers a node, kind and number, in preorder.
+#![tactic(auto)]
+
 pub mod check;
 pub mod closures;
 pub mod copy;
@@ -9,7 +11,7 @@ pub mod walk;
 use calculus::Refusal;
 
 // What a walk over the nodes of a table finds.
-#[derive(Drop)]
+#[derive(Clone, Copy)]
 pub enum Walked {
     NoProgram,
     Loose,
@@ -17,7 +19,7 @@ pub enum Walked {
 }
 
 // What a check of a table answers.
-#[derive(Drop)]
+#[derive(Clone, Copy)]
 pub enum Checked {
     Admitted,
     Refused(Refusal),

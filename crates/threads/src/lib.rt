@@ -1,4 +1,6 @@
 // Where threads stand, and the call that hands a thread's part back.
+#![tactic(auto)]
+
 ghost use Rattle.std.specs.Prelude.{length};
 ghost use Rattle.calculus.specs.Sheets.{sheet};
 ghost use Rattle.table.specs.Checks.{in_force};
@@ -11,14 +13,14 @@ use table::kinds::EMPTY;
 use table::nodes::node_at;
 
 // Where a thread stands: its first node.
-#[derive(Drop)]
+#[derive(Clone, Copy)]
 pub enum Place {
     From(usize),
     Missing,
 }
 
 // A part of a table: its first number, and how many numbers.
-#[derive(Drop)]
+#[derive(Clone, Copy)]
 pub struct Span {
     pub start: usize,
     pub length: usize,

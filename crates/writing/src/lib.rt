@@ -1,3 +1,5 @@
 // Table to text.
+#![tactic(auto)]
+
 pub mod store;
 pub mod write;

@@ -69,7 +69,7 @@ pub fn text_length(t: &[u16], count: usize) -> usize
 }
 
 // Where writing has come to: the next node, the next byte of the output, and the cells on the stack.
-#[derive(Drop)]
+#[derive(Clone, Copy)]
 pub struct Progress {
     pub node: usize,
     pub byte: usize,
