@@ -6,3 +6,4 @@ pub mod Calling
 pub mod Once
 pub mod Closures
 pub mod Examples
+mod Answering

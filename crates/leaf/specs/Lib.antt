@@ -1,2 +1,3 @@
 pub mod Reported
 pub mod Written
+pub mod Answered

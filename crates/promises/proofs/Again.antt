@@ -1,14 +1,14 @@
 -- What comes out is admitted again.
 use mathlib.Core.Path.{◌≡◌, refl, ap}
 use mathlib.Core.Logic.{◌⊎◌, inl, inr}
-use mathlib.Core.List.{[], ◌∷◌, ◌++◌}
+use mathlib.Core.List.{List, [], ◌∷◌, ◌++◌}
 use Prim.Native.Nat.{ℕ}
 use Rattle.calculus.specs.declared.Refusal.{Refusal}
 use Rattle.calculus.specs.Tree.{program, Tree}
 use Rattle.calculus.specs.Good.{Good}
 use Rattle.calculus.specs.Sheets.{Sheet}
-use Rattle.calculus.specs.Answers.{number}
-use Rattle.calculus.specs.Calls.{Refusals, Accepts, Refuses, table_refusals, written, not_written, step_refusals, stepped, not_stepped, ran, not_run, stands, not_stood}
+use Rattle.calculus.specs.Answers.{number, Values}
+use Rattle.calculus.specs.Calls.{Refusals, Accepts, Refuses, table_refusals, Writes, StepsInto, RunsWith, StandsAt, written, not_written, step_refusals, stepped, not_stepped, ran, not_run, stands, not_stood}
 use Rattle.promises.specs.Worked.{Held}
 use Rattle.promises.specs.Again.{Admits, AdmittedAgain}
 use Rattle.promises.proofs.Admitted.{good_table}
@@ -32,14 +32,25 @@ module _ {n : ℕ} {table : Sheet} {count : ℕ} {p : Tree program} (held : Held
   step_given out r (inr (a, inr (b, inr (c, inr (d, inr (e, inr (f, inl g))))))) = inr (inr (ap number g.1))
   step_given out r (inr (a, inr (b, inr (c, inr (d, inr (e, inr (f, inr g))))))) = absurd g.1
 
+  writes_again : (out : List ℕ) (v : Values) (o : List ℕ) → Writes n table count out v o → (v.refusal ≡ 0) ⊎ (v.refusal ≡ 9)
+  writes_again out v o (written q a t) = inl refl
+  writes_again out v o (not_written r g) = inr (last_given (table_refusals n table count) _ r (good_table held good) g)
+
+  steps_again : (out : Sheet) (v : Values) (o : Sheet) → StepsInto n table count out v o → (v.refusal ≡ 0) ⊎ ((v.refusal ≡ 7) ⊎ ((v.refusal ≡ 9) ⊎ (v.refusal ≡ 11)))
+  steps_again out v o (stepped q s a t) = inl refl
+  steps_again out v o (not_stepped r g) = inr (step_given out r g)
+
+  runs_again : (work : Sheet) (limit : ℕ) (v : Values) (t w : Sheet) → RunsWith n table count work limit v t w → (v.refusal ≡ 0) ⊎ (v.refusal ≡ 9)
+  runs_again work limit v t w (ran q a k) = inl refl
+  runs_again work limit v t w (not_run r g) = inr (last_given (table_refusals n table count) _ r (good_table held good) g)
+
+  stands_again : (k : ℕ) (v : Values) → StandsAt n table count k v → (v.refusal ≡ 0) ⊎ (v.refusal ≡ 10)
+  stands_again k v (stands t a o) = inl refl
+  stands_again k v (not_stood r g) = inr (last_given (table_refusals n table count) _ r (good_table held good) g)
+
   -- a good program with its column is admitted by every call
   pub good_admits : Admits n table count
-  good_admits = record {
-    writes = λ out v o h. elim h [ written q a t ↦ inl refl | not_written r g ↦ inr (last_given (table_refusals n table count) _ r (good_table held good) g) ];
-    steps = λ out v o h. elim h [ stepped q s a t ↦ inl refl | not_stepped r g ↦ inr (step_given out r g) ];
-    runs = λ work limit v t w h. elim h [ ran q a k ↦ inl refl | not_run r g ↦ inr (last_given (table_refusals n table count) _ r (good_table held good) g) ];
-    stands = λ k v h. elim h [ stands t a o ↦ inl refl | not_stood r g ↦ inr (last_given (table_refusals n table count) _ r (good_table held good) g) ];
-  }
+  good_admits = record { writes = writes_again; steps = steps_again; runs = runs_again; stands = stands_again }
 
 -- what read, step and run leave, with their columns
 pub admitted_again : AdmittedAgain

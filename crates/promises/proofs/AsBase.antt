@@ -10,10 +10,10 @@ use Rattle.calculus.specs.Tree.{term, Tree, preorder}
 use Rattle.calculus.specs.Sheets.{Sheet, holds}
 use Rattle.calculus.specs.Run.{room_of}
 use Rattle.calculus.specs.Answers.{Values}
-use Rattle.calculus.specs.Calls.{Refusals, nodes_before, read, refused, wrong_column, RunsWith, written, not_written, stepped, not_stepped, ran, not_run, stands, not_stood, part, no_part}
+use Rattle.calculus.specs.Calls.{Refusals, nodes_before, Reads, Writes, StepsInto, StandsAt, PartAt, read, refused, wrong_column, RunsWith, written, not_written, stepped, not_stepped, ran, not_run, stands, not_stood, part, no_part}
 use Rattle.calculus.proofs.Refusals.{accepted_not_refused, one_refusal}
 use Rattle.calculus.proofs.Outcomes.{text_of_unique, table_of_unique, steps_to_unique, thread_of_unique}
-use Rattle.promises.specs.AsBase.{Base, done, not_done, BaseRunsIn, base_thread_refusals, RightColumn, LongColumn, AsBase, BaseOnce}
+use Rattle.promises.specs.AsBase.{Base, done, not_done, BaseReads, BaseWrites, BaseSteps, BaseStands, BasePart, BaseRunsIn, base_thread_refusals, RightColumn, LongColumn, AsBase, BaseOnce}
 
 -- a condition W that does not hold, taken out behind the first one of a list
 less_refuses : {F N W C M X : Type 0} → (W → ⊥) → F ⊎ (N × ((W × C) ⊎ (M × X))) → F ⊎ (N × X)
@@ -35,15 +35,36 @@ run_in : (n : ℕ) (table : Sheet) (count : ℕ) (work : Sheet) (limit : ℕ) (v
 run_in n table count work limit v t w right (ran p a k) = done p (a.0, a.1.1) k
 run_in n table count work limit v t w right (not_run r g) = not_done r (less_refuses (never right) g)
 
+reads_in : (n : ℕ) (b : List ℕ) (out : Sheet) (v : Values) (o : Sheet) → LongColumn out → Reads n b out v o → BaseReads n b out.numbers v o.numbers
+reads_in n b out v o l (read p a t) = done p (rw (as_table out l) at a) t
+reads_in n b out v o l (refused r g) = not_done r (rw (as_table out l) at g)
+
+writes_in : (n : ℕ) (table : Sheet) (count : ℕ) (out : List ℕ) (v : Values) (o : List ℕ) → RightColumn n table count → Writes n table count out v o → BaseWrites n table.numbers count out v o
+writes_in n table count out v o right (written p a t) = done p (a.0, a.1.1) t
+writes_in n table count out v o right (not_written r g) = not_done r (less_refuses (never right) g)
+
+steps_in : (n : ℕ) (table : Sheet) (count : ℕ) (out : Sheet) (v : Values) (o : Sheet) → RightColumn n table count → LongColumn out → StepsInto n table count out v o →
+    BaseSteps n table.numbers count out.numbers v o.numbers
+steps_in n table count out v o right l (stepped p s a t) = let b = rw (as_table out l) at a in done s (b.0, b.1.1) (p, t)
+steps_in n table count out v o right l (not_stepped r g) = not_done r (rw (as_table out l) at (less_refuses (never right) g))
+
+stands_in : (n : ℕ) (table : Sheet) (count k : ℕ) (v : Values) → RightColumn n table count → StandsAt n table count k v → BaseStands n table.numbers count k v table.numbers
+stands_in n table count k v right (stands t a o) = done t (a.0, a.1.1) o
+stands_in n table count k v right (not_stood r g) = not_done r (less_refuses (never right) g)
+
+parts_in : (n : ℕ) (table : Sheet) (count k start : ℕ) (found : List ℕ) → RightColumn n table count → PartAt n table count k start found → BasePart n table.numbers count k start found
+parts_in n table count k start found right (part t a o) = done (t, o) (a.0, a.1.1) tt
+parts_in n table count k start found right (no_part r g) = not_done r (less_refuses (never right) g)
+
 pub as_base : AsBase
 as_base = record {
-  reads = λ n b out v o l h. elim h [ read p a t ↦ done p (rw (as_table out l) at a) t | refused r g ↦ not_done r (rw (as_table out l) at g) ];
-  writes = λ n table count out v o right h. elim h [ written p a t ↦ done p (a.0, a.1.1) t | not_written r g ↦ not_done r (less_refuses (never right) g) ];
-  steps = λ n table count out v o right l h. elim h [ stepped p s a t ↦ let b = rw (as_table out l) at a in done s (b.0, b.1.1) (p, t) | not_stepped r g ↦ not_done r (rw (as_table out l) at (less_refuses (never right) g)) ];
+  reads = reads_in;
+  writes = writes_in;
+  steps = steps_in;
   runs = λ n table count work limit v t w right l m h. rw (as_table table l, as_table work m) at (run_in n table count work limit v t w right h);
   runs_in = run_in;
-  stands = λ n table count k v right h. elim h [ stands t a o ↦ done t (a.0, a.1.1) o | not_stood r g ↦ not_done r (less_refuses (never right) g) ];
-  parts = λ n table count k start l right h. elim h [ part t a o ↦ done (t, o) (a.0, a.1.1) tt | no_part r g ↦ not_done r (less_refuses (never right) g) ];
+  stands = stands_in;
+  parts = parts_in;
 }
 
 -- a call of the base allows one outcome only, where all that it may find is told and left alike

@@ -359,7 +359,7 @@ module _ (e : ℕ) where
   below_wants : (within : Bool) (d k : ℕ) (ws : List Want) → suc d ≤ e → Below e ws → Below e (wants within d k ++ ws)
   unfolding wants last_part
   below_wants within d k ws h c =
-      let deep : Below e (want program (cond within 1 (suc d)) ∷ []) = elim within [ true ↦ omega arith | false ↦ omega arith ] in
+      let deep : Below e (want program (cond within 1 (suc d)) ∷ []) = elim within as (λ b. Below e (want program (cond b 1 (suc d)) ∷ [])) [ true ↦ omega arith | false ↦ omega arith ] in
       let last : Below e (last_part within d k ∷ []) = below_cond (eqb k 1) _ _ (omega arith) (below_cond (eqb k 5) _ _ (omega arith) (below_cond (eqb k 6) _ _ deep (below_cond (eqb k 8) _ _ (omega arith) (omega arith)))) in
       below_append (drop (2 - get_or parts k 0) (want term d ∷ last_part within d k ∷ [])) ws (below_drop (2 - get_or parts k 0) (want term d ∷ last_part within d k ∷ []) (omega arith, last)) c
 

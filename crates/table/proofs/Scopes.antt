@@ -54,6 +54,11 @@ within_closures d (abs (at m) p) h l q (inr u) = within_closures 1 p h l q u
 within_closures d (fresh t) h l q u = within_closures (suc d) t h l q u
 within_closures d (two o s t) h l q (inl u) = within_closures d s h.0 l q u
 within_closures d (two o s t) h l q (inr u) = within_closures d t h.1 l q u
+within_closures d empty h l q u = elim u [ ]
+within_closures d (bound _) h l q u = elim u [ ]
+within_closures d (free _) h l q u = elim u [ ]
+within_closures d (con _) h l q u = elim u [ ]
+within_closures d (abs code p) h l q (inl u) = elim u [ ]
 
 -- and where each body has none, only those count
 pub closures_within : {s : Sort} (d : ℕ) (x : Tree s) → Closed d x → Within x → ScopedIn true d x

@@ -1,0 +1,43 @@
+// From a reader to a writer: the report of all that is read.
+ghost use Rattle.std.specs.Prelude.{◌≡◌, ◌≤◌, ◌<◌, length, take, IfOk, OnOk, IfSome};
+ghost use Rattle.std.specs.Io.KnownBytes.{Consumes, IsAtEnd};
+ghost use Rattle.leaf.specs.Answered.{Answers};
+
+use crate::report::report_input;
+use small::TEXT;
+use std::io;
+use std::io::{Read, Write};
+
+// One byte past the longest text.
+const INPUT: usize = TEXT + 1;
+
+// The longest report.
+const REPORT: usize = TEXT + 16;
+
+// Reads until the buffer is full or the input ends, and returns how many bytes it put at the buffer's front.
+fn read_full<R: Read>(from: &mut R, buffer: &mut [u8]) -> io::Result<usize>
+    ensures bound { IfOk result (λ n. n ≤ length buffer.new) }
+    ensures bytes { IfOk result (λ n. Consumes (R.remaining from.old) (R.remaining from.new) (take n buffer.new)) }
+    ensures end { IfOk result (λ n. n < length buffer.new → IsAtEnd (R.remaining from.new)) }
+{
+    let mut at: usize = 0;
+    while at < buffer.len() {
+        let n = from.read(&mut buffer[at..])?;
+        if n == 0 {
+            break;
+        }
+        at += n;
+    }
+    Ok(at)
+}
+
+// Writes the report of what it reads. Where the input is known, the output grows by that input's report.
+pub fn answer<R: Read, W: Write>(from: &mut R, to: &mut W) -> io::Result<()>
+    ensures { OnOk result (IfSome (R.remaining from.old) (Answers (W.contents to.old) (W.contents to.new))) }
+{
+    let mut input = [0u8; INPUT];
+    let n = read_full(from, &mut input)?;
+    let mut out = [0u8; REPORT];
+    let m = report_input(&input, n, &mut out);
+    to.write_all(&out[..m])
+}
