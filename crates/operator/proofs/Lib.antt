@@ -1,3 +1,4 @@
 -- The laws of the refusals of an operator's text, and of its read.
 pub mod Turned
 pub mod Reading
+mod TurnedAwayFacts

@@ -1,2 +1,3 @@
 -- The laws behind the proofs of src/.
 pub mod Places
+mod PlaceOfFacts

@@ -1,0 +1,42 @@
+-- `leaf::report::put_end` meets its contract: the start, the text of the program in the rest of the output, the bracket. The text is not refused.
+use mathlib.Core.Path.{ap}
+use Prim.Native.Nat.{◌+◌, ◌*◌, ◌≤◌, ◌<◌}
+use native.Mathlib.Omega.{arith}
+use borrow.Author.Rules.{rules}
+use Rattle.calculus.specs.Answers.{Values, counted_values}
+use Rattle.small.specs.Limit.{small_limit}
+use Rattle.leaf.proofs.Reporting.{start_fits, end_not_refused, end_small, end_closing, end_written}
+use Rattle.leaf.proofs.report.put_end.Goals as goal
+
+pub slice_bounds-write-count : goal.slice_bounds-write-count
+slice_bounds-write-count c =
+    let few : c.args.steps < 65536 = omega (arith, c.ranges.steps) in
+    let fits : c.put_start-at.result ≤ 15 = start_fits c.args.reason c.args.steps c.requires.holds_good c.requires.longest_in_bounds (few) c.put_start-at.ensures in
+    omega (arith, fits)
+
+pub slice_bounds-write-start : goal.slice_bounds-write-start
+slice_bounds-write-start c =
+    let few : c.args.steps < 65536 = omega (arith, c.ranges.steps) in
+    let fits : c.put_start-at.result ≤ 15 = start_fits c.args.reason c.args.steps c.requires.holds_good c.requires.longest_in_bounds (few) c.put_start-at.ensures in
+    omega (arith, fits)
+
+pub overflow_add-at : goal.overflow_add-at
+overflow_add-at c =
+    let few : c.args.steps < 65536 = omega (arith, c.ranges.steps) in
+    let short : c.put_start-at.result + c.in-Count.n ≤ 12 * small_limit + 15 = end_small c.args.reason c.args.steps c.requires.holds_good c.requires.longest_in_bounds (few) c.put_start-at.ensures c.write.ensures (ap counted_values c.in-Count.is) in
+    omega (arith, short)
+
+pub put-requires : goal.put-requires
+put-requires c =
+    let few : c.args.steps < 65536 = omega (arith, c.ranges.steps) in
+    end_closing c.args.reason c.args.steps c.requires.holds_good c.requires.longest_in_bounds (few) c.put_start-at.ensures c.write.ensures (ap counted_values c.in-Count.is)
+
+pub returns-in-Count : goal.returns-in-Count
+returns-in-Count c =
+    let few : c.args.steps < 65536 = omega (arith, c.ranges.steps) in
+    end_written c.args.reason c.args.steps c.requires.holds_good c.requires.longest_in_bounds (few) c.put_start-at.ensures c.write.ensures (ap counted_values c.in-Count.is) c.put.ensures
+
+pub returns-in-Refused : goal.returns-in-Refused
+returns-in-Refused c =
+    let few : c.args.steps < 65536 = omega (arith, c.ranges.steps) in
+    absurd (end_not_refused c.args.reason c.args.steps c.requires.holds_good c.requires.longest_in_bounds (few) c.put_start-at.ensures c.write.ensures c.in-Refused.r (ap (λ (v : Values). v.refusal) (ap counted_values c.in-Refused.is)))

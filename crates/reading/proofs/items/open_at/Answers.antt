@@ -1,0 +1,14 @@
+-- `reading::items::open_at` meets its contract.
+use borrow.Author.Rules.{rules}
+use mathlib.Core.Logic.{⊎_elim}
+use native.Mathlib.Omega.{arith}
+use Rattle.csexp.specs.Items.{opening}
+use Rattle.csexp.proofs.Closings.{item_taken, none_taken}
+use Rattle.reading.proofs.Descents.{open_there, not_bracket, no_item}
+use Rattle.reading.proofs.items.open_at.Goals as goal
+
+pub returns-in_default-i : goal.returns-in_default-i
+returns-in_default-i c = not_bracket 40 (omega arith) (item_taken c.take.ensures.takes _ _ c.in-Next.is) (λ e z. c.in_default-i.not-Open e) (λ e z. omega arith)
+
+pub returns-in_default : goal.returns-in_default
+returns-in_default c = no_item opening (none_taken c.take.ensures.takes (λ i k e. c.in_default.not-Next i k e))

@@ -1,0 +1,16 @@
+-- `reading::parse::descend` meets its contract. The loop's invariant: where what waits leads, the program leads from the beginning. The measure is what is left of the text.
+use borrow.Author.Rules.{rules}
+use Rattle.reading.proofs.Descents.{Looping, loop_start, loop_end, loop_out, loop_again as again}
+use Rattle.reading.specs.Descent.{bracket, members}
+use lib.ListN.{length}
+use mathlib.Core.List.{[], ◌∷◌}
+use mathlib.Core.Path.{◌∙◌}
+use native.Mathlib.Omega.{arith}
+use Prim.Native.Nat.{◌-◌}
+use Rattle.reading.proofs.parse.descend.Given as goal
+
+abbrev pub invariant-loop-goals : goal.invariant-loop-goals
+invariant-loop-goals l = Looping l.limit l.s (bracket 40 ∷ members 0 ∷ []) l.initial.at l.initial.met l.initial.build l.initial.goals l.at l.met l.w l.build l.goals
+
+abbrev pub decreases-loop-goals : goal.decreases-loop-goals
+decreases-loop-goals l = length l.s - l.at.at

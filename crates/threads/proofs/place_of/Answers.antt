@@ -1,0 +1,33 @@
+-- `threads::place_of` meets its contract. The loop's invariant: i threads are passed, at most k, and the rest of the program stands at the node `at`.
+use mathlib.Core.Path.{◌≡◌, refl, sym, ◌∙◌}
+use mathlib.Core.List.{List, [], ◌∷◌, ◌++◌, append-nil}
+use Prim.Native.Nat.{ℕ, ◌+◌, ◌*◌, ◌-◌, ◌≤◌, ◌<◌}
+use native.Mathlib.Omega.{arith}
+use lib.ListN.{length, get_or, length-append}
+use Rattle.calculus.specs.Tree.{term, program, Tree, nodes, threads, program_of}
+use Rattle.calculus.proofs.Preorders.{threads_of_program}
+use Rattle.table.specs.Nodes.{NodeIs, Stands}
+use Rattle.table.proofs.Trees.{IsAlt, Reached, in_table, program_at, alt_at, reached_none, reached_more}
+use Rattle.column.specs.Sizes.{SizeAt}
+use Rattle.threads.specs.Places.{ProgramAt, place_values, PlaceOf, from, missing}
+use Rattle.threads.specs.declared.Place.TheVariants.{From, Missing}
+use Rattle.threads.proofs.Places.{thread_size}
+use Rattle.threads.proofs.PlaceOfFacts.{Placing, start, none_left, one_more, whole, found, sized, past}
+use Rattle.threads.proofs.place_of.Goals as goal
+
+pub loop-k-init : goal.loop-k-init
+loop-k-init c = search start
+
+pub returns-then-n-eq-EMPTY : goal.returns-then-n-eq-EMPTY
+returns-then-n-eq-EMPTY c = search none_left
+
+pub returns-then-i-k : goal.returns-then-i-k
+returns-then-i-k c = found c.loop-k.invariant c.node_at-n.ensures c.if-n-eq-EMPTY.false c.if-i-k.true
+
+pub size_at-requires : goal.size_at-requires
+size_at-requires c = (sized c.loop-k.invariant c.node_at-n.ensures c.if-n-eq-EMPTY.false).0
+
+pub loop-k-preserved : goal.loop-k-preserved
+loop-k-preserved c =
+    let again : let l = c.loop-k in let a = c.args in Placing a.t.now a.column.now a.k (l.at + 1 + c.size_at.result) (l.i + 1) = past c.loop-k.invariant c.node_at-n.ensures c.if-n-eq-EMPTY.false c.size_at.ensures c.if-i-k.false in
+    again

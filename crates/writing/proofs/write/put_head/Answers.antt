@@ -1,0 +1,16 @@
+-- `writing::write::put_head` meets its contract.
+use Rattle.writing.proofs.Written.{tag_room, number_room, numbered_head, plain_head}
+use borrow.Author.Rules.{rules}
+use Rattle.writing.proofs.write.put_head.Goals as goal
+
+pub put_tag-byte-requires : goal.put_tag-byte-requires
+put_tag-byte-requires c = search tag_room
+
+pub put_number-requires : goal.put_number-requires
+put_number-requires c = search number_room
+
+pub returns-then-has_number : goal.returns-then-has_number
+returns-then-has_number c = search numbered_head
+
+pub returns : goal.returns
+returns c = search plain_head

@@ -1,0 +1,23 @@
+-- `writing::write::put_piece` meets its contract.
+use native.Mathlib.Omega.{arith}
+use Rattle.writing.proofs.Pieces.{term_asked, term_put, closing_room, closing_put, rest_inside, end_room, end_put, rest_cell, member_asked, member_put}
+use borrow.Author.Rules.{rules}
+use Rattle.writing.proofs.write.put_piece.Goals as goal
+
+pub node_at-n-requires : goal.node_at-n-requires
+node_at-n-requires c = search rest_inside
+
+pub overflow_add-next : goal.overflow_add-next
+overflow_add-next c = omega (arith, rest_inside c.if-cell-eq-TERM.false c.if-cell-eq-CLOSE.false c.requires)
+
+pub returns-then-n-eq-EMPTY : goal.returns-then-n-eq-EMPTY
+returns-then-n-eq-EMPTY c = search end_put
+
+pub push-rest-requires : goal.push-rest-requires
+push-rest-requires c = search rest_cell
+
+pub put_term-requires-2 : goal.put_term-requires-2
+put_term-requires-2 c = search member_asked
+
+pub returns : goal.returns
+returns c = search member_put

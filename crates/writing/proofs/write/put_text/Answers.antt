@@ -1,0 +1,33 @@
+-- `writing::write::put_text` meets its contract. The loop's invariant: what the pieces on the stack make of the output is the whole text. The measure: what is left of the output.
+use Prim.Native.Nat.{◌-◌}
+use native.Mathlib.Omega.{arith}
+use lib.ListN.{length}
+use Rattle.writing.proofs.Pieces.{TextLeft, opening_room, first_cell, text_start, top_inside, top_asked, text_next, text_put}
+use Rattle.writing.proofs.write.put_text.Goals as goal
+
+pub put-byte-requires : goal.put-byte-requires
+put-byte-requires c = search opening_room
+
+pub push-cells-requires : goal.push-cells-requires
+push-cells-requires c = search first_cell
+
+pub loop-cells-init : goal.loop-cells-init
+loop-cells-init c = search text_start
+
+pub offset_bounds-stack-top : goal.offset_bounds-stack-top
+offset_bounds-stack-top c = omega (arith, top_inside c.loop-cells.invariant c.loop-cells-test.true)
+
+pub bounds-stack-top : goal.bounds-stack-top
+bounds-stack-top c = search top_inside
+
+pub put_piece-p-requires : goal.put_piece-p-requires
+put_piece-p-requires c = search top_asked
+
+pub loop-cells-preserved : goal.loop-cells-preserved
+loop-cells-preserved c = search text_next
+
+pub returns : goal.returns
+returns c = search text_put
+
+pub loop-cells-smaller : goal.loop-cells-smaller
+loop-cells-smaller c = let h = loop-cells-preserved c in omega (arith, h.left.to_come.room.fits, c.put_piece-p.ensures.later, c.put_piece-p.auto)
