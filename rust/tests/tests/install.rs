@@ -185,8 +185,8 @@ fn archives_that_are_there_stay() {
     assert_eq!(times(), before);
 }
 
-/// A stand-in for rt: of the same version, but it proves nothing. Where kit/object is there it makes an archive of that in the crate's out/, after a
-/// while, but for the crate that kit/unproved names.
+/// A stand-in for rt: of the same version, but it proves nothing. Where kit/object is there it makes an archive of that, after a while, but for
+/// the crate that kit/unproved names.
 const RT: &str = r#"#!/bin/sh
 kit=$(dirname "$0")/..
 [ "$1" != version ] || exec cat "$kit/KIT-ID"
@@ -206,7 +206,7 @@ fn called(size: &str, machine: &str) -> String {
     format!("rt was called in {size}: lib --target {machine}-unknown-linux-gnu{processor}\n")
 }
 
-/// A copy of all that tools/archive and tools/install read, with the archives; in kit/ is the stand-in, beside the toolchain's own folder of programs.
+/// A copy of all that tools/archive and tools/install read, with the archives; in kit/ is the stand-in, beside the toolchain's own programs.
 struct Copy {
     folder: Folder,
 }
@@ -219,7 +219,8 @@ impl Copy {
         // (what the toolchain writes into crates/*/out is long)
         let mut tar = Command::new("sh");
         tar.current_dir(root()).arg("-c").arg(
-            r#"tar -c --exclude='crates/*/out' crates crates.txt include rust/Cargo.toml tools target/native target/staticlib target/aarch64 | tar -x -C "$0""#,
+            r#"tar -c --exclude='crates/*/out' crates crates.txt include rust/Cargo.toml tools target/native target/staticlib target/aarch64 |
+                tar -x -C "$0""#,
         );
         printed(tar.arg(&copy.folder.0));
         fs::create_dir_all(copy.file("kit/bin")).unwrap();
