@@ -1,7 +1,6 @@
 -- `operator::turned_away` meets its contract.
-use mathlib.Core.Path.{◌≡◌, refl}
+use mathlib.Core.Path.{◌≡◌}
 use mathlib.Core.List.{[], ◌∷◌}
-use borrow.Author.Rules.{rules}
 use denote.Enum.Declared.{declared, tag_of}
 use types.Run.{OneOf, miss}
 use Rattle.calculus.specs.declared.Refusal.{Refusal}

@@ -9,7 +9,7 @@ use Rattle.calculus.specs.declared.Reason.TheVariants.{Steps}
 use Rattle.calculus.specs.declared.Rule.{Rule}
 use Rattle.calculus.specs.declared.Rule.TheVariants.{Alloc, Beta, Fresh, Guard, Unif, Fail}
 use Rattle.calculus.specs.declared.Counts.{Counts}
-use Rattle.calculus.specs.Tree.{term, program, Tree, preorder, threads, program_of}
+use Rattle.calculus.specs.Tree.{term, Tree, preorder, threads, program_of}
 use Rattle.calculus.specs.Step.{step}
 use Rattle.calculus.specs.Sheets.{Sheet, sheet}
 use Rattle.calculus.specs.Run.{End, size, run, room_of}

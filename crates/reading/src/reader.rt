@@ -1,5 +1,5 @@
-// A text and a place in it, held together, and the item that stands there. The borrow checker covers no function over a struct
-// that holds a slice, so the work is done by `item_at`, on the slice and the number, and `reader_at`, `next_item` and `item_from` are thin.
+// A text and a place in it, held together, and the item that stands there. The work is done by `item_at`, on the slice and the number;
+// `reader_at`, `next_item` and `item_from` are thin.
 ghost use Rattle.std.specs.Prelude.{◌≡◌};
 ghost use Rattle.csexp.specs.Items.{Takes};
 
@@ -31,7 +31,7 @@ pub fn next_item<'a>(r: Reader<'a>) -> Taken
     item_at(r.text, r.at)
 }
 
-// Its parameters are plain, so whoever calls it needs no walk by hand.
+// The item at a place of a text, by a reader of its own.
 pub fn item_from(text: &[u8], at: usize) -> Taken
     ensures { Takes text.now at result }
 {

@@ -1,9 +1,7 @@
 -- `operator::read` meets its contract: what the library's read accepts is accepted where it holds no closure, and what that refuses is turned away.
 use mathlib.Core.Path.{ap}
-use native.Mathlib.Omega.{arith}
-use borrow.Author.Rules.{rules}
 use Rattle.calculus.specs.Answers.{Values, counted_values}
-use Rattle.operator.proofs.Reading.{read_held, none_read, one_turned, refusal_turned}
+use Rattle.operator.proofs.Reading.{none_read, one_turned, refusal_turned}
 use Rattle.operator.proofs.read.Goals as goal
 
 pub returns-then-none_allocated : goal.returns-then-none_allocated

@@ -1,7 +1,6 @@
 -- `threads::span_of` meets its contract: what the check admits is one program, and so many nodes from a thread's place on as its column says are its part of the
 -- table.
 use native.Mathlib.Omega.{arith}
-use borrow.Author.Rules.{rules}
 use lib.ListN.{length}
 use Rattle.calculus.specs.Sheets.{sheet}
 use Rattle.table.specs.Checks.{in_force}

@@ -2,7 +2,6 @@
 use mathlib.Core.Path.{sym, ◌∙◌}
 use Rattle.table.proofs.Verdicts.{admitted_there}
 use Rattle.column.proofs.Admissions.{tree_of, admitted_some, refused_in, refused_some, first_stays, not_right, right_admits, right_refuses}
-use borrow.Author.Rules.{rules}
 use Rattle.column.proofs.check.check_with.Goals as goal
 
 pub check_column-requires : goal.check_column-requires

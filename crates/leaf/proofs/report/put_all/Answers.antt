@@ -1,8 +1,5 @@
 -- `leaf::report::put_all` meets its contract. The loop's invariant: the first i bytes stand there.
-use Prim.Native.Nat.{◌-◌}
-use native.Mathlib.Omega.{arith}
-use lib.ListN.{length}
-use Rattle.leaf.proofs.Stores.{Filling, filling_none, filling_more, filling_all}
+use Rattle.leaf.proofs.Stores.{filling_more}
 use Rattle.leaf.proofs.report.put_all.Goals as goal
 
 pub loop-i-preserved : goal.loop-i-preserved

@@ -1,8 +1,7 @@
 -- `leaf::report::put_all` meets its contract. The loop's invariant: the first i bytes stand there.
 use Prim.Native.Nat.{◌-◌}
-use native.Mathlib.Omega.{arith}
 use lib.ListN.{length}
-use Rattle.leaf.proofs.Stores.{Filling, filling_none, filling_more, filling_all}
+use Rattle.leaf.proofs.Stores.{Filling}
 use Rattle.leaf.proofs.report.put_all.Given as goal
 
 abbrev pub invariant-loop-i : goal.invariant-loop-i

@@ -2,7 +2,6 @@
 use mathlib.Core.Path.{ap}
 use Prim.Native.Nat.{◌+◌, ◌*◌, ◌≤◌, ◌<◌}
 use native.Mathlib.Omega.{arith}
-use borrow.Author.Rules.{rules}
 use Rattle.calculus.specs.Answers.{Values, counted_values}
 use Rattle.small.specs.Limit.{small_limit}
 use Rattle.leaf.proofs.Reporting.{start_fits, end_not_refused, end_small, end_closing, end_written}

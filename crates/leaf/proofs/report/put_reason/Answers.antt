@@ -1,6 +1,5 @@
 -- `leaf::report::put_reason` meets its contract: each reason has its own bytes.
 use mathlib.Core.Path.{refl}
-use borrow.Author.Rules.{rules}
 use Rattle.calculus.specs.Sexp.{digits, decimal, bytes}
 use Rattle.leaf.specs.Written.{reason_atom}
 use Rattle.leaf.proofs.Reporting.{reason_room, reason_wrote}

@@ -1,5 +1,4 @@
 -- `leaf::report::put_refusal` meets its contract: the atom, the number, the bracket.
-use borrow.Author.Rules.{rules}
 use Rattle.leaf.proofs.Reporting.{refusal_number, refusal_closing, refusal_wrote}
 use Rattle.leaf.proofs.report.put_refusal.Goals as goal
 

@@ -1,7 +1,6 @@
 -- `leaf::report::put_run` meets its contract: the program in the table is run, not refused, and the report of its end is that of the run.
 use mathlib.Core.Path.{ap}
 use native.Mathlib.Omega.{arith}
-use borrow.Author.Rules.{rules}
 use Rattle.calculus.specs.Answers.{Values, ran_values}
 use Rattle.small.specs.Limit.{small_limit}
 use Rattle.calculus.proofs.Reports.{zeros_hold}

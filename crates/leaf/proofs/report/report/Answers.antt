@@ -1,6 +1,5 @@
 -- `leaf::report::report` meets its contract: what is read is run and reported; a refusal is reported.
 use mathlib.Core.Path.{ap}
-use borrow.Author.Rules.{rules}
 use Rattle.calculus.specs.Answers.{Values, counted_values}
 use Rattle.leaf.proofs.Calling.{read_loaded, run_reported, refusal_reported}
 use Rattle.leaf.proofs.report.report.Goals as goal

@@ -1,8 +1,4 @@
 -- `leaf::report::report_input` meets its contract: the report of what the buffer holds is that of the whole input, for the buffer is longer than the text limit.
-use mathlib.Core.Path.{sym}
-use borrow.Author.Rules.{rules}
-use native.Mathlib.Omega.{arith}
-use lib.Seq.{length-take-le}
 use Rattle.leaf.proofs.Once.{whole_reported}
 use Rattle.leaf.proofs.report.report_input.Goals as goal
 

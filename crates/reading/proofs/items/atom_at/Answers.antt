@@ -1,10 +1,7 @@
 -- `reading::items::atom_at` meets its contract.
-use borrow.Author.Rules.{rules}
-use mathlib.Core.Logic.{⊎_elim}
-use native.Mathlib.Omega.{arith}
 use Rattle.csexp.specs.Items.{of_atom}
 use Rattle.csexp.proofs.Closings.{item_taken, none_taken}
-use Rattle.reading.proofs.Descents.{atom_there, not_atom, no_item}
+use Rattle.reading.proofs.Descents.{not_atom, no_item}
 use Rattle.reading.proofs.items.atom_at.Goals as goal
 
 pub returns-in_default-i : goal.returns-in_default-i

@@ -1,10 +1,8 @@
 -- `reading::items::open_at` meets its contract.
-use borrow.Author.Rules.{rules}
-use mathlib.Core.Logic.{⊎_elim}
 use native.Mathlib.Omega.{arith}
 use Rattle.csexp.specs.Items.{opening}
 use Rattle.csexp.proofs.Closings.{item_taken, none_taken}
-use Rattle.reading.proofs.Descents.{open_there, not_bracket, no_item}
+use Rattle.reading.proofs.Descents.{not_bracket, no_item}
 use Rattle.reading.proofs.items.open_at.Goals as goal
 
 pub returns-in_default-i : goal.returns-in_default-i

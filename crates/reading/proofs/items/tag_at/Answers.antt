@@ -1,7 +1,5 @@
 -- `reading::items::tag_at` meets its contract.
-use borrow.Author.Rules.{rules}
-use native.Mathlib.Omega.{arith}
-use Rattle.reading.proofs.Descents.{tag_there, no_tag, long_tag}
+use Rattle.reading.proofs.Descents.{long_tag}
 use Rattle.reading.proofs.items.tag_at.Goals as goal
 
 pub returns-else-n-eq1 : goal.returns-else-n-eq1

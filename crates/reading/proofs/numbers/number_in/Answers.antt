@@ -1,9 +1,7 @@
 -- `reading::numbers::number_in` meets its contract. The loop's invariant: the bytes passed are digits, and v with what is left stands for the number of the whole.
-use mathlib.Core.Logic.{⊎_elim}
-use Prim.Native.Nat.{◌-◌}
 use native.Mathlib.Omega.{arith}
 use borrow.Author.Tests.{ltb-true, ltb-false}
-use Rattle.reading.proofs.Decimals.{empty_bad, long_bad, zero_bad, byte_bad, part, Reading, reading_start, reading_next, number_is, large_bad}
+use Rattle.reading.proofs.Decimals.{empty_bad, long_bad, zero_bad, byte_bad, reading_start, reading_next, number_is, large_bad}
 use Rattle.reading.proofs.numbers.number_in.Goals as goal
 use Rattle.reading.proofs.numbers.number_in.Goals.{then-n-eq0-via-then-n-eq0, then-n-eq0-via-else-n-eq0+then-n-gt5, else-s-place-eq48-via-then-s-place-eq48+else-n-gt1, else-s-place-eq48-via-else-s-place-eq48, then-b-lt48-via-then-b-lt48, then-b-lt48-via-else-b-lt48+then-b-gt57}
 

@@ -1,9 +1,6 @@
 -- `reading::numbers::number_in` meets its contract. The loop's invariant: the bytes passed are digits, and v with what is left stands for the number of the whole.
-use mathlib.Core.Logic.{⊎_elim}
 use Prim.Native.Nat.{◌-◌}
-use native.Mathlib.Omega.{arith}
-use borrow.Author.Tests.{ltb-true, ltb-false}
-use Rattle.reading.proofs.Decimals.{empty_bad, long_bad, zero_bad, byte_bad, part, Reading, reading_start, reading_next, number_is, large_bad}
+use Rattle.reading.proofs.Decimals.{part, Reading}
 use Rattle.reading.proofs.numbers.number_in.Given as goal
 
 abbrev pub invariant-loop-i : goal.invariant-loop-i

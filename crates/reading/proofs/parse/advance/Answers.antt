@@ -1,8 +1,6 @@
 -- `reading::parse::advance` meets its contract.
-use borrow.Author.Rules.{rules}
-use Rattle.reading.proofs.Descents.{term_ready, next_term, next_open, next_close, next_end_close}
-use Rattle.reading.proofs.Stacks.{next_end, other_goal}
-use native.Mathlib.Omega.{arith}
+use Rattle.reading.proofs.Descents.{next_open, next_close, next_end_close}
+use Rattle.reading.proofs.Stacks.{other_goal}
 use Rattle.reading.proofs.parse.advance.Goals as goal
 
 pub returns-in-2 : goal.returns-in-2

@@ -1,8 +1,6 @@
 -- `reading::parse::begun` meets its contract.
-use borrow.Author.Rules.{rules}
 use Rattle.reading.specs.Descent.{TagAt}
 use Rattle.reading.specs.declared.items.Tag.TheVariants.{Is}
-use native.Mathlib.Omega.{arith}
 use Rattle.reading.proofs.Descents.{term_none, term_out, term_turn}
 use Rattle.reading.proofs.Stacks.{room_there}
 use Rattle.reading.proofs.parse.begun.Goals as goal

@@ -1,12 +1,6 @@
 -- `reading::parse::descend` meets its contract. The loop's invariant: where what waits leads, the program leads from the beginning. The measure is what is left of the text.
-use borrow.Author.Rules.{rules}
-use Rattle.reading.proofs.Descents.{Looping, loop_start, loop_end, loop_out, loop_again as again}
-use Rattle.reading.specs.Descent.{bracket, members}
-use lib.ListN.{length}
-use mathlib.Core.List.{[], ◌∷◌}
-use mathlib.Core.Path.{◌∙◌}
+use Rattle.reading.proofs.Descents.{loop_again as again}
 use native.Mathlib.Omega.{arith}
-use Prim.Native.Nat.{◌-◌}
 use Rattle.reading.proofs.parse.descend.Goals as goal
 
 pub loop-goals-smaller : goal.loop-goals-smaller

@@ -1,8 +1,6 @@
 -- `reading::parse::head` meets its contract.
-use borrow.Author.Rules.{rules}
 use Rattle.reading.proofs.Descents.{numbered_head, plain_head}
-use Rattle.reading.proofs.Grammar.{no_row_tag}
-use Rattle.reading.specs.Descent.{leaf, code, located, opened, pair, no_row}
+use Rattle.reading.specs.Descent.{leaf, code, located, opened, pair}
 use Rattle.calculus.specs.Text.{bound_leaf, free_leaf, con_leaf}
 use Rattle.calculus.specs.Tree.{app, guard, unif}
 use mathlib.Core.Path.{refl}

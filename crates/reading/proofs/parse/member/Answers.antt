@@ -1,5 +1,4 @@
 -- `reading::parse::member` meets its contract.
-use borrow.Author.Rules.{rules}
 use Rattle.reading.proofs.Descents.{members_end, members_more}
 use Rattle.reading.proofs.parse.member.Goals as goal
 

@@ -1,5 +1,4 @@
 -- `reading::parse::noted` meets its contract.
-use borrow.Author.Rules.{rules}
 use mathlib.Core.Path.{refl}
 use Rattle.reading.proofs.Descents.{node_stored, node_counted}
 use Rattle.reading.proofs.parse.noted.Goals as goal

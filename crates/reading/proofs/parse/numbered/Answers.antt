@@ -1,11 +1,9 @@
 -- `reading::parse::numbered` meets its contract.
-use borrow.Author.Rules.{rules}
 use mathlib.Core.Path.{refl}
-use mathlib.Core.Logic.{⊎_elim}
 use native.Mathlib.Omega.{arith}
 use borrow.Author.Tests.{leb-true, leb-false, ltb-true, ltb-false}
 use Rattle.reading.specs.Descent.{AtomBetween}
-use Rattle.reading.proofs.Descents.{number_out, number_bad, number_loose, number_bound}
+use Rattle.reading.proofs.Descents.{number_bad, number_loose, number_bound}
 use Rattle.reading.proofs.parse.numbered.Goals as goal
 use Rattle.reading.proofs.parse.numbered.Goals.{else-kind-eq-BOUND-via-then-kind-eq-BOUND+else-d-v, else-kind-eq-BOUND-via-else-kind-eq-BOUND}
 

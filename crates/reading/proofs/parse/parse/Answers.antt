@@ -1,5 +1,4 @@
 -- `reading::parse::parse` meets its contract.
-use borrow.Author.Rules.{rules}
 use Rattle.reading.proofs.Descents.{parse_out, Whole, whole, parse_more, parse_bad, parse_loose, parse_nodes}
 use Rattle.reading.proofs.parse.parse.Goals as goal
 

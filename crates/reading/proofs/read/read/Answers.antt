@@ -1,9 +1,6 @@
 -- `reading::read::read` meets its contract: the scan, the parse and the check of the build table decide the refusals in their order, and only then is anything written.
-use mathlib.Core.Path.{◌≡◌, sym, ap}
-use mathlib.Core.List.{List}
-use Prim.Native.Nat.{ℕ}
+use mathlib.Core.Path.{◌≡◌, ap}
 use native.Mathlib.Omega.{arith}
-use borrow.Author.Rules.{rules}
 use borrow.Author.Tests.{not-true, not-false}
 use Rattle.calculus.specs.Sheets.{sheet}
 use Rattle.calculus.specs.Calls.{Reads}
@@ -11,7 +8,7 @@ use Rattle.table.specs.Checks.{checked_number, Checks}
 use Rattle.table.proofs.Verdicts.{AdmittedIn, limit_in_force, admitted_there}
 use Rattle.reading.specs.Reading.{parsed_values}
 use Rattle.reading.specs.declared.Parsed.{Parsed}
-use Rattle.reading.proofs.Readings.{Scanned, ParsedThere, Loaded, read_too_long, read_not_canonical, scan, decide, parsed_there, read_too_many, load, read_incoherent, read_no_room, load_countable, load_length, read_done}
+use Rattle.reading.proofs.Readings.{Scanned, ParsedThere, Loaded, read_too_long, read_not_canonical, scan, decide, parsed_there, read_too_many, load, read_incoherent, read_no_room, load_countable, read_done}
 use Rattle.reading.proofs.read.read.Goals as goal
 
 pub returns-then-limit-text : goal.returns-then-limit-text

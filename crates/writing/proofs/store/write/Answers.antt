@@ -1,6 +1,5 @@
 -- `writing::store::write` meets its contract: the check of the table with its column refuses, or the length of the text decides.
 use native.Mathlib.Omega.{arith}
-use borrow.Author.Rules.{rules}
 use Rattle.calculus.specs.Sheets.{sheet}
 use Rattle.table.proofs.Verdicts.{limit_in_force}
 use Rattle.column.proofs.Admissions.{HeldIn, held_there}

@@ -1,6 +1,5 @@
 -- `writing::write::node_bytes` meets its contract.
 use Rattle.writing.proofs.Lengths.{plain_bytes, numbered_bytes}
-use borrow.Author.Rules.{rules}
 use Rattle.writing.proofs.write.node_bytes.Goals as goal
 
 pub returns-then-has_number : goal.returns-then-has_number

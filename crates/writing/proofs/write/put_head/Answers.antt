@@ -1,6 +1,5 @@
 -- `writing::write::put_head` meets its contract.
 use Rattle.writing.proofs.Written.{tag_room, number_room, numbered_head, plain_head}
-use borrow.Author.Rules.{rules}
 use Rattle.writing.proofs.write.put_head.Goals as goal
 
 pub put_tag-byte-requires : goal.put_tag-byte-requires

@@ -1,6 +1,6 @@
 -- `writing::write::put_number` meets its contract. The loop's invariant: what the digits that are left make of the output is the whole decimal.
 use native.Mathlib.Omega.{arith}
-use Rattle.writing.proofs.Written.{DigitsLeft, length_room, colon_room, digits_start, digits_next, number_wrote}
+use Rattle.writing.proofs.Written.{length_room, colon_room, digits_start, digits_next, number_wrote}
 use Rattle.writing.proofs.write.put_number.Goals as goal
 
 pub put-a-requires : goal.put-a-requires

@@ -1,6 +1,5 @@
 -- `writing::write::put_number` meets its contract. The loop's invariant: what the digits that are left make of the output is the whole decimal.
-use native.Mathlib.Omega.{arith}
-use Rattle.writing.proofs.Written.{DigitsLeft, length_room, colon_room, digits_start, digits_next, number_wrote}
+use Rattle.writing.proofs.Written.{DigitsLeft}
 use Rattle.writing.proofs.write.put_number.Given as goal
 
 abbrev pub invariant-loop-i : goal.invariant-loop-i

@@ -1,7 +1,6 @@
 -- `writing::write::put_piece` meets its contract.
 use native.Mathlib.Omega.{arith}
-use Rattle.writing.proofs.Pieces.{term_asked, term_put, closing_room, closing_put, rest_inside, end_room, end_put, rest_cell, member_asked, member_put}
-use borrow.Author.Rules.{rules}
+use Rattle.writing.proofs.Pieces.{rest_inside, end_put, rest_cell, member_asked, member_put}
 use Rattle.writing.proofs.write.put_piece.Goals as goal
 
 pub node_at-n-requires : goal.node_at-n-requires

@@ -1,7 +1,6 @@
 -- `writing::write::put_term` meets its contract.
 use native.Mathlib.Omega.{arith}
 use Rattle.writing.proofs.Pieces.{term_inside, kind_asked, head_asked, bracket_room, close_cell, part_cell, second_cell, leaf_put, body_put, fresh_put, pair_put}
-use borrow.Author.Rules.{rules}
 use Rattle.writing.proofs.write.put_term.Goals as goal
 
 pub node_at-n-requires : goal.node_at-n-requires

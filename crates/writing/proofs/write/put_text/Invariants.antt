@@ -1,8 +1,7 @@
 -- `writing::write::put_text` meets its contract. The loop's invariant: what the pieces on the stack make of the output is the whole text. The measure: what is left of the output.
 use Prim.Native.Nat.{◌-◌}
-use native.Mathlib.Omega.{arith}
 use lib.ListN.{length}
-use Rattle.writing.proofs.Pieces.{TextLeft, opening_room, first_cell, text_start, top_inside, top_asked, text_next, text_put}
+use Rattle.writing.proofs.Pieces.{TextLeft}
 use Rattle.writing.proofs.write.put_text.Given as goal
 
 abbrev pub invariant-loop-cells : goal.invariant-loop-cells

@@ -1,7 +1,6 @@
 -- `writing::write::text_length` meets its contract. The loop's invariant: what is counted and the bytes of the nodes that are left make those of the whole table.
 use Prim.Native.Nat.{◌-◌}
-use native.Mathlib.Omega.{arith}
-use Rattle.writing.proofs.Lengths.{Counting, counting_start, counting_next, counting_end}
+use Rattle.writing.proofs.Lengths.{Counting}
 use Rattle.writing.proofs.write.text_length.Given as goal
 
 abbrev pub invariant-loop-at : goal.invariant-loop-at
