@@ -20,7 +20,7 @@ alone() {
 
 # The toolchain's folder.
 toolchain() {
-    echo "${RATTLE_HOME:-$(cd "$(dirname "$(readlink -f "$(command -v rt)")")/.." && pwd -P)}"
+    (cd "$(dirname "$(readlink -f "$(command -v rt)")")/.." && pwd -P)
 }
 
 # crates_of NAME: that crate and all that it uses, by crates.txt.
@@ -33,11 +33,34 @@ crates_of() {
             for (i = split(all[crate], uses, " "); i > 0; i--) take(uses[i])
         }
         { sub(/#.*/, "") }
-        NF > 1 { gsub(/[ \t]/, "", $1); all[$1] = $2 }
+        # the word staticlib may stand behind a name
+        NF > 1 { split($1, words, " "); all[words[1]] = $2 }
         END { take(name) }' crates.txt
 }
 
-# prove NAME LOG WORDS..: runs WORDS, an rt that proves NAME and what it uses. What it says goes to LOG, whose end is shown where it fails.
+# for_machine MACHINE: sets `flags` to what rt and rattle are told of it. Code for x86-64 is to run on every such processor; by themselves they
+# ask for SSE4.2.
+for_machine() {
+    flags=(--target "$1-unknown-linux-gnu")
+    [ "$1" != x86_64 ] || flags+=(--cpu x86-64)
+}
+
+# over_ci NAME ROOT FILE FLAG..: proves the crate NAME alone, whose root file is ROOT, over the libraries that `rt ci` has left in
+# crates/*/out/rlib, and compiles it to FILE. (rt itself does not take these: it would prove each again.)
+over_ci() {
+    local name=$1 root=$2 to=$3 kit crate uses words
+    shift 3
+    kit=$(toolchain)
+    read -ra uses <<< "$(sed -n "s/#.*//; s/^$name\( [^:]*\)\?://p" crates.txt)"
+    words=(--crate-name "$name" "$root" --links "$name=" --extern "std=$kit/rlibs/std.rlib" -L "dependency=$kit/rlibs")
+    for crate in "${uses[@]}"; do words+=(--extern "$crate=$PWD/crates/$crate/out/rlib/$crate.rlib"); done
+    for crate in $(crates_of "$name"); do words+=(-L "dependency=$PWD/crates/$crate/out/rlib"); done
+    words+=(--antt-project "$kit/rattle/logic/antt-project.json" --logic-built "$kit/logic_built" --toolchain "$kit/toolchain" --backend llvm)
+    (cd "crates/$name" && "$kit/bin/rattle" build "${words[@]}" --jobs 2 "$@" -o "$to")
+}
+
+# prove NAME LOG WORDS..: runs WORDS, which prove NAME and what it uses. What they say goes to LOG, whose end is shown where they fail. A function
+# among them is to return by itself where a command of it fails: bash goes on here.
 prove() {
     local name=$1 log=$2 status=0
     shift 2
@@ -55,7 +78,7 @@ begin_progress() {
     SECONDS=0
     # where the tool is killed it ends by itself, and it does not hold the lock
     while kill -0 $$ 2> /dev/null; do
-        printf '\r\033[K%s of %s crates proved, %s s' "$(grep -c '^rt: [A-Za-z0-9_]* proved (' "$1")" "$2" "$SECONDS"
+        printf '\r\033[K%s crates proved, of %s at most, %s s' "$(grep -c '^logic=proved' "$1")" "$2" "$SECONDS"
         sleep 1
     done >&2 9>&- &
     progress=$!
@@ -71,3 +94,23 @@ end_progress() {
 
 # a tool that is broken off leaves no half of a line
 trap end_progress EXIT
+
+# Proves and builds the program, and puts it where tools/leaf looks.
+build_leaf() {
+    mkdir -p target/bin
+    prove leaf target/leaf.log make_leaf
+}
+
+make_leaf() {
+    local flags kit
+    for_machine x86_64
+    if [ -n "${after_ci:-}" ]; then
+        kit=$(toolchain)
+        over_ci leaf src/main.rt "$PWD/target/leaf.o" "${flags[@]}" &&
+            "$kit/bin/rattle-link" --target x86_64-unknown-linux-gnu --toolchain "$kit/toolchain" -o target/leaf.new target/leaf.o \
+                "$kit/c/libos_c.a" "$kit/c/liblibc_c.a"
+    else
+        # rt runs what it builds, here on nothing
+        (cd crates/leaf && rt run "${flags[@]}") && mv crates/leaf/out/leaf target/leaf.new
+    fi && mv target/leaf.new target/bin/leaf
+}

@@ -14,14 +14,10 @@ const ARCHIVE: &str = "libmespindro.a";
 const ROOT: &str = "../..";
 
 /// What the repository's archive is made of. The paths are relative so that they are this clone's own where cargo's output was copied.
-const SOURCES: [&str; 6] = [
-    "crates",
-    "crates.txt",
-    "include/mespindro.h",
-    "tools/archive",
-    "tools/arm.awk",
-    "tools/prove.sh",
-];
+const SOURCES: [&str; 3] = ["crates.txt", "tools/archive", "tools/prove.sh"];
+
+/// What of each crate it is made of: not of out/, which the toolchain writes.
+const PARTS: [&str; 3] = ["src", "specs", "proofs"];
 
 fn main() {
     core_error();
@@ -103,18 +99,30 @@ fn own() -> Result<(PathBuf, PathBuf), String> {
             "this package stands outside its repository, which makes the archive: run `tools/install PREFIX` there, and set {LIB_DIR} to PREFIX/lib here"
         ));
     }
-    let archive = root.join(place()?).join(ARCHIVE);
+    let machine = variable("CARGO_CFG_TARGET_ARCH")?;
+    let archive = root.join(place(&machine)?).join(ARCHIVE);
     for source in SOURCES {
         println!("cargo:rerun-if-changed={ROOT}/{source}");
     }
+    for part in parts(&root.join("crates"))? {
+        println!("cargo:rerun-if-changed={}", part.display());
+    }
     // .cargo/config.toml tells what for
     println!("cargo:rerun-if-env-changed=MESPINDRO_REPOSITORY");
-    println!("cargo:rerun-if-env-changed=RATTLE_HOME");
     if let Some(version) = toolchain_version() {
         println!("cargo:rerun-if-changed={}", version.display());
     }
-    make(root)?;
+    make(root, &machine)?;
     Ok((archive, root.join("include")))
+}
+
+fn parts(crates: &Path) -> Result<Vec<PathBuf>, String> {
+    let folders = fs::read_dir(crates).map_err(at(crates))?;
+    let parts = folders
+        .flatten()
+        .flat_map(|folder| PARTS.map(|part| folder.path().join(part)))
+        .filter(|part| part.is_dir());
+    Ok(parts.collect())
 }
 
 /// The file with the toolchain's version, by which tools/archive goes too; none where it has another shape than today's.
@@ -131,23 +139,23 @@ fn toolchain_version() -> Option<PathBuf> {
 }
 
 /// Where tools/archive puts the archive for the machine that is compiled for.
-fn place() -> Result<&'static str, String> {
-    let machine = variable("CARGO_CFG_TARGET_ARCH")?;
+fn place(machine: &str) -> Result<&'static str, String> {
     let system = variable("CARGO_CFG_TARGET_OS")?;
-    match (machine.as_str(), system.as_str()) {
+    match (machine, system.as_str()) {
         ("x86_64", "linux") => Ok("target/staticlib"),
-        (machine, "linux") if machine == env::consts::ARCH => Ok("target/native"),
+        ("aarch64", "linux") => Ok("target/aarch64"),
         _ => Err(format!(
-            "tools/archive makes no archive for {machine}-{system} on this machine: if you have one, set {LIB_DIR} to its folder"
+            "tools/archive makes no archive for {machine}-{system}: if you have one, set {LIB_DIR} to its folder"
         )),
     }
 }
 
-fn make(root: &Path) -> Result<(), String> {
+fn make(root: &Path, machine: &str) -> Result<(), String> {
     let tool = root.join("tools/archive");
     let seen = errors_of_cargo().map_or_else(Stdio::inherit, Stdio::from);
     let mut command = Command::new(&tool);
     let status = command
+        .arg(machine)
         .stdin(Stdio::null())
         .stdout(Stdio::null())
         .stderr(seen)

@@ -1,5 +1,5 @@
-//! The examples, built and run: examples/place.c in C, rust/mespindro/examples/place.rs in Rust, and on Arm also the C one for x86-64 with the
-//! archive that the switch gets, under the toolchain's emulator. All print the same for every rule set. And the program in the header's comment.
+//! The examples, built and run: examples/place.c in C, rust/mespindro/examples/place.rs in Rust, and the C one also for Arm, under an emulator. All
+//! print the same for every rule set. And the program in the header's comment.
 
 mod in_c;
 

@@ -47,7 +47,7 @@ fn install(folder: &Folder, words: &[&str]) -> Output {
     tool.current_dir(&folder.0).args(words).output().unwrap()
 }
 
-/// One of the two archives that tools/archive makes.
+/// One of the archives that tools/archive makes.
 fn archive(place: &str) -> PathBuf {
     root().join("target").join(place).join("libmespindro.a")
 }
@@ -104,17 +104,11 @@ fn place_with_pkg_config_alone() {
 #[test]
 fn for_each_machine() {
     let folder = Folder::new("machine");
-    for (machine, place) in [("x86_64", "staticlib"), ("aarch64", "native")] {
+    for (machine, place) in [("x86_64", "staticlib"), ("aarch64", "aarch64")] {
         let output = install(&folder, &[machine, machine]);
-        if machine == "x86_64" || machine == std::env::consts::ARCH {
-            assert!(output.status.success(), "{}", errors(&output));
-            let installed = folder.0.join(machine).join("lib/libmespindro.a");
-            assert_same(&installed, &archive(place));
-        } else {
-            assert_eq!(output.status.code(), Some(1));
-            assert!(errors(&output).contains("on aarch64 only"));
-            assert!(!folder.0.join(machine).exists());
-        }
+        assert!(output.status.success(), "{}", errors(&output));
+        let installed = folder.0.join(machine).join("lib/libmespindro.a");
+        assert_same(&installed, &archive(place));
     }
     let header = folder.0.join("x86_64/include/mespindro.h");
     assert_same(&header, &root().join("include/mespindro.h"));
@@ -160,10 +154,14 @@ fn a_prefix_that_cannot_be_written() {
     assert!(!folder.0.join("folder/include").exists());
 }
 
-/// tools/archive of the repository.
+/// The machines that an archive is made for, and the places of the archives.
+const MACHINES: [&str; 2] = ["x86_64", "aarch64"];
+const PLACES: [&str; 3] = ["native", "staticlib", "aarch64"];
+
+/// tools/archive of the repository, for each machine.
 fn tools_archive() -> Output {
     let mut tool = Command::new(root().join("tools/archive"));
-    tool.output().unwrap()
+    tool.args(MACHINES).output().unwrap()
 }
 
 /// Nothing was made, and nothing said.
@@ -177,7 +175,7 @@ fn assert_kept(output: &Output, after: &str) {
 fn archives_that_are_there_stay() {
     assert!(tools_archive().status.success());
     let times = || {
-        ["native", "staticlib"].map(|place| {
+        PLACES.map(|place| {
             let file = fs::metadata(archive(place)).unwrap();
             file.modified().unwrap()
         })
@@ -192,12 +190,23 @@ fn archives_that_are_there_stay() {
 const RT: &str = r#"#!/bin/sh
 kit=$(dirname "$0")/..
 [ "$1" != version ] || exec cat "$kit/KIT-ID"
-echo "rt was called: $*" | tee -a "$kit/calls"
-[ "$(cat "$kit/unproved" 2> /dev/null)" != "$2" ] || exit 1
-[ -f "$kit/object" ] && sleep 1 && cp "$kit/object" "$kit/$2.o" && rm -f "target/staticlib/lib$2.a" && ar rc "target/staticlib/lib$2.a" "$kit/$2.o"
+crate=$(basename "$PWD")
+echo "rt was called in $crate: $*" | tee -a "$kit/calls"
+[ "$(cat "$kit/unproved" 2> /dev/null)" != "$crate" ] || exit 1
+[ -f "$kit/object" ] && sleep 1 && mkdir -p out && cp "$kit/object" "out/$crate.o" && rm -f "out/lib$crate.a" && ar rc "out/lib$crate.a" "out/$crate.o"
 "#;
 
-/// A copy of all that tools/archive and tools/install read, with the archives; in kit/ is the stand-in.
+/// What the stand-in for rt says where a crate's archive is to be made for a machine.
+fn called(size: &str, machine: &str) -> String {
+    let processor = if machine == "x86_64" {
+        " --cpu x86-64"
+    } else {
+        ""
+    };
+    format!("rt was called in {size}: lib --target {machine}-unknown-linux-gnu{processor}\n")
+}
+
+/// A copy of all that tools/archive and tools/install read, with the archives; in kit/ is the stand-in, beside the toolchain's own programs.
 struct Copy {
     folder: Folder,
 }
@@ -207,24 +216,23 @@ impl Copy {
         assert!(tools_archive().status.success());
         let folder = Folder::new(name);
         let copy = Copy { folder };
-        for folder in ["target", "rust", "kit", "kit/bin"] {
-            fs::create_dir(copy.file(folder)).unwrap();
-        }
-        for part in [
-            "crates",
-            "crates.txt",
-            "include",
-            "rust/Cargo.toml",
-            "tools",
-            "target/native",
-            "target/staticlib",
-        ] {
-            let mut cp = Command::new("cp");
-            printed(cp.arg("-R").arg(root().join(part)).arg(copy.file(part)));
-        }
+        // (what the toolchain writes into crates/*/out is long)
+        let mut tar = Command::new("sh");
+        tar.current_dir(root()).arg("-c").arg(
+            r#"tar -c --exclude='crates/*/out' crates crates.txt include rust/Cargo.toml tools target/native target/staticlib target/aarch64 |
+                tar -x -C "$0""#,
+        );
+        printed(tar.arg(&copy.folder.0));
+        fs::create_dir_all(copy.file("kit/bin")).unwrap();
         copy.program("kit/bin/rt", RT);
         let version = printed(Command::new("rt").arg("version"));
         fs::write(copy.file("kit/KIT-ID"), version).unwrap();
+        let mut toolchain = Command::new("bash");
+        toolchain
+            .current_dir(root())
+            .args(["-c", ". tools/prove.sh && toolchain"]);
+        let programs = Path::new(printed(&mut toolchain).trim()).join("toolchain");
+        std::os::unix::fs::symlink(programs, copy.file("kit/toolchain")).unwrap();
         copy
     }
 
@@ -237,8 +245,13 @@ impl Copy {
         printed(Command::new("chmod").arg("+x").arg(self.file(name)));
     }
 
-    fn stamp(&self) -> PathBuf {
-        self.file("target/native/stamp")
+    fn stamp(&self, machine: &str) -> PathBuf {
+        let place = if machine == "x86_64" {
+            "native"
+        } else {
+            machine
+        };
+        self.file("target").join(place).join("stamp")
     }
 
     /// One of its tools, with the stand-in for rt.
@@ -248,24 +261,25 @@ impl Copy {
         // by the shell's name: a file that was just written may be busy for a start by its own
         let mut tool = Command::new("bash");
         tool.arg(self.file(name));
-        tool.env("PATH", path).env_remove("RATTLE_HOME");
+        tool.env("PATH", path);
         tool
     }
 
+    /// tools/archive of the copy, for each machine.
     fn archive(&self) -> Output {
-        self.tool("tools/archive").output().unwrap()
+        self.tool("tools/archive").args(MACHINES).output().unwrap()
     }
 
-    /// It sets out to make the archives, says so first, and fails as the stand-in does.
-    fn assert_made(&self, after: &str) {
+    /// It sets out to make the archive for the machine, says so first, and fails as the stand-in does.
+    fn assert_made(&self, machine: &str, after: &str) {
         let output = self.archive();
         let said = errors(&output);
         assert_eq!(output.status.code(), Some(1), "{after}: {said}");
-        let first = "tools/archive: proving and compiling";
-        assert!(said.starts_with(first), "{after}: {said}");
-        let called = "rt was called: staticlib exports";
-        assert!(said.contains(called), "{after}: {said}");
-        assert!(!self.stamp().exists(), "{after}");
+        let first = format!("tools/archive: proving and compiling the library for {machine}");
+        assert!(said.starts_with(&first), "{after}: {said}");
+        let called = called("exports", machine);
+        assert!(said.contains(&called), "{after}: {said}");
+        assert!(!self.stamp(machine).exists(), "{after}");
     }
 }
 
@@ -277,7 +291,10 @@ fn archives_stay_where_others_have_changed() {
         "crates/table/must-fail/new.edit",
         "crates/table/more-edits/new.edit",
         "crates/leaf/src/main.rt",
+        "crates/table/out/new.rt",
+        "include/mespindro.h",
     ] {
+        fs::create_dir_all(copy.file(other).parent().unwrap()).unwrap();
         fs::write(copy.file(other), "new").unwrap();
         assert_kept(&copy.archive(), other);
     }
@@ -286,41 +303,39 @@ fn archives_stay_where_others_have_changed() {
 #[test]
 fn archives_are_made_again_where_something_has_changed() {
     let copy = Copy::new("changed");
-    let stamp = fs::read(copy.stamp()).unwrap();
-    for part in [
-        "crates/mespindro/src/lib.rt",
-        "crates/small_exports/src/lib.rt",
-        "crates/table/specs/Lib.antt",
-        "crates/calculus/proofs/Lib.antt",
-        "crates.txt",
-        "include/mespindro.h",
-        "tools/archive",
-        "tools/arm.awk",
-        "tools/prove.sh",
-        "kit/KIT-ID",
-        "target/native/libmespindro.a",
-        "target/staticlib/libmespindro.a",
+    for (machine, part) in [
+        ("x86_64", "crates/mespindro/src/lib.rt"),
+        ("x86_64", "crates/small_exports/src/lib.rt"),
+        ("x86_64", "crates/table/specs/Lib.antt"),
+        ("x86_64", "crates/calculus/proofs/Lib.antt"),
+        ("x86_64", "crates.txt"),
+        ("x86_64", "tools/archive"),
+        ("x86_64", "tools/prove.sh"),
+        ("x86_64", "kit/KIT-ID"),
+        ("x86_64", "target/native/libmespindro.a"),
+        ("x86_64", "target/staticlib/libmespindro.a"),
+        ("aarch64", "target/aarch64/libmespindro.a"),
     ] {
+        let stamp = fs::read(copy.stamp(machine)).unwrap();
         let before = fs::read(copy.file(part)).unwrap();
         fs::write(copy.file(part), [&before[..], b"\n"].concat()).unwrap();
-        copy.assert_made(part);
+        copy.assert_made(machine, part);
         // what stood there when it failed is not taken for what it was to make
         fs::write(copy.file(part), before).unwrap();
-        copy.assert_made(part);
-        fs::write(copy.stamp(), &stamp).unwrap();
+        copy.assert_made(machine, part);
+        fs::write(copy.stamp(machine), &stamp).unwrap();
         assert_kept(&copy.archive(), part);
     }
     fs::remove_file(copy.file("target/native/libmespindro.a")).unwrap();
-    copy.assert_made("an archive that is gone");
+    copy.assert_made("x86_64", "an archive that is gone");
 }
 
 #[test]
 fn two_at_once_make_the_archives_once() {
     let copy = Copy::new("twice");
-    // on x86-64 what rt makes is all that is made
-    copy.program("kit/bin/uname", "#!/bin/sh\necho x86_64\n");
-    // there it is made already, of these sources
-    fs::remove_file(copy.stamp()).unwrap();
+    for machine in MACHINES {
+        fs::remove_file(copy.stamp(machine)).unwrap();
+    }
     fs::write(copy.file("kit/object"), "new\n").unwrap();
     std::thread::scope(|scope| {
         for call in [(); 2].map(|()| scope.spawn(|| copy.archive())) {
@@ -329,10 +344,13 @@ fn two_at_once_make_the_archives_once() {
         }
     });
     let calls = fs::read_to_string(copy.file("kit/calls")).unwrap();
-    let once =
-        ["exports", "small_exports"].map(|size| format!("rt was called: staticlib {size}\n"));
+    let once = MACHINES.map(|machine| {
+        ["exports", "small_exports"]
+            .map(|size| called(size, machine))
+            .concat()
+    });
     assert_eq!(calls, once.concat());
-    for archive in ["native", "staticlib"] {
+    for archive in PLACES {
         let file = copy.file("target").join(archive).join("libmespindro.a");
         let objects = printed(Command::new("ar").arg("p").arg(file));
         assert_eq!(objects, "new\n".repeat(2));
@@ -343,27 +361,29 @@ fn two_at_once_make_the_archives_once() {
 #[test]
 fn one_size_that_is_not_proved_leaves_the_archives() {
     let copy = Copy::new("one");
-    copy.program("kit/bin/uname", "#!/bin/sh\necho x86_64\n");
-    fs::remove_file(copy.stamp()).unwrap();
+    fs::remove_file(copy.stamp("x86_64")).unwrap();
     fs::write(copy.file("kit/object"), "new\n").unwrap();
     fs::write(copy.file("kit/unproved"), "small_exports").unwrap();
     let archives = || {
-        ["native", "staticlib"]
+        PLACES
             .map(|place| fs::read(copy.file("target").join(place).join("libmespindro.a")).unwrap())
     };
     let before = archives();
     let output = copy.archive();
     assert_eq!(output.status.code(), Some(1), "{}", errors(&output));
     let calls = fs::read_to_string(copy.file("kit/calls")).unwrap();
-    assert!(calls.ends_with("staticlib small_exports\n"), "{calls}");
-    assert!(archives() == before && !copy.stamp().exists());
+    assert!(
+        calls.ends_with(&called("small_exports", "x86_64")),
+        "{calls}"
+    );
+    assert!(archives() == before && !copy.stamp("x86_64").exists());
 }
 
 #[test]
 fn nothing_is_installed_without_an_archive() {
     let copy = Copy::new("without");
     let prefix = copy.file("prefix");
-    fs::remove_file(copy.stamp()).unwrap();
+    fs::remove_file(copy.stamp(std::env::consts::ARCH)).unwrap();
     let mut install = copy.tool("tools/install");
     let output = install.arg(&prefix).output().unwrap();
     assert_eq!(output.status.code(), Some(1), "{}", errors(&output));

@@ -1,4 +1,4 @@
-//! The stack of a run of each rule set, of the archive that the switch gets: the older leaf's management task has 16 KiB (request 4), which the
+//! The stack of a run of each rule set, of the archive for x86-64: the older leaf's management task has 16 KiB (request 4), which the
 //! small calls fit (request 6). And what a call does on a stack that is too short: it faults in the guard page, and nothing below has changed.
 
 mod in_c;

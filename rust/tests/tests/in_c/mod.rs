@@ -1,5 +1,5 @@
-//! Programs in C that link the library: built for this machine, and on Arm also for x86-64 with the archive that the switch gets, to run under
-//! the toolchain's emulator.
+//! Programs in C that link the library: built for this machine, and also for a switch with an Arm core, to run under an emulator, where a compiler
+//! for Arm and the emulator are installed.
 
 use std::path::{Path, PathBuf};
 use std::process::Command;
@@ -13,9 +13,9 @@ pub fn folder() -> PathBuf {
     PathBuf::from(env!("CARGO_TARGET_TMPDIR"))
 }
 
-/// One of the two archives that tools/archive makes, of the crates as they stand.
-fn archive(place: &str) -> PathBuf {
-    build(root().join("tools/archive"), &[]);
+/// The archive that tools/archive makes for a machine, of the crates as they stand.
+fn archive(machine: &str, place: &str) -> PathBuf {
+    build(root().join("tools/archive"), &[machine.to_string()]);
     root().join("target").join(place).join("libmespindro.a")
 }
 
@@ -42,113 +42,45 @@ fn program_of(source: &Path, flags: &[&str], end: &str) -> PathBuf {
     folder().join(format!("{name}{}{end}", flags.concat()))
 }
 
-/// Builds a source for this machine; what is answered starts the program. `-DSMALL` among the flags is for the small calls: c/size.h.
-pub fn for_this_machine(source: &str, flags: &[&str]) -> impl Fn() -> Command {
-    let source = root().join(source);
-    let program = program_of(&source, flags, "");
-    let archive = archive("native");
+fn compile(compiler: &str, source: &Path, flags: &[&str], archive: &Path, program: &Path) {
     let mut arguments: Vec<String> = ["-Wall", "-Wextra", "-Werror", "-pedantic", "-O2"]
         .map(String::from)
         .to_vec();
     arguments.extend(flags.iter().map(|flag| flag.to_string()));
     arguments.extend([include(), "-o".to_string()]);
-    arguments.extend(words(&[&program, &source, &archive]));
-    build("cc", &arguments);
+    arguments.extend(words(&[program, source, archive]));
+    build(compiler, &arguments);
+}
+
+/// Builds a source for this machine; what is answered starts the program. `-DSMALL` among the flags is for the small calls: c/size.h.
+pub fn for_this_machine(source: &str, flags: &[&str]) -> impl Fn() -> Command {
+    let source = root().join(source);
+    let program = program_of(&source, flags, "");
+    let archive = archive(std::env::consts::ARCH, "native");
+    compile("cc", &source, flags, &archive, &program);
     move || Command::new(&program)
 }
 
-/// Builds a source for the switch; what is answered starts the program. None where `for_this_machine` is for the switch already, or where there
-/// is no emulator.
+/// What builds and runs a program for Arm.
+const ARM: [&str; 2] = ["aarch64-linux-gnu-gcc", "qemu-aarch64"];
+
+/// Builds a source for a switch with an Arm core; what is answered starts the program. None where that cannot be built or run here.
 pub fn for_the_switch(source: &str, flags: &[&str]) -> Option<impl Fn() -> Command> {
-    if std::env::consts::ARCH == "x86_64" {
-        println!("skipped: on x86-64 the test beside links the switch's archive");
+    let lacking = |tool: &&str| Command::new(tool).arg("--version").output().is_err();
+    if let Some(tool) = ARM.iter().find(|tool| lacking(tool)) {
+        println!("skipped: no {tool} here");
         return None;
     }
-    let Some((programs, libraries)) = kit() else {
-        println!("skipped: no toolchain with an x86-64 emulator here");
-        return None;
-    };
+    let [compiler, emulator] = ARM;
     let source = root().join(source);
-    let program = program_of(&source, flags, "-x86-64");
-    build_for_switch(&programs, &libraries, &source, flags, &program);
+    let program = program_of(&source, flags, "-aarch64");
+    let archive = archive("aarch64", "aarch64");
+    // a program that needs no libraries of another machine
+    let flags = [flags, &["-static"]].concat();
+    compile(compiler, &source, &flags, &archive, &program);
     Some(move || {
-        let mut emulator = Command::new(programs.join("bin/qemu-x86_64"));
-        emulator.arg("-L").arg(&programs);
-        emulator.arg(libraries.join("ld-linux-x86-64.so.2"));
-        emulator.arg("--library-path").arg(&libraries).arg(&program);
-        emulator
+        let mut command = Command::new(emulator);
+        command.arg(&program);
+        command
     })
-}
-
-/// The toolchain's folders: its programs for this machine, and the x86-64 libraries.
-fn kit() -> Option<(PathBuf, PathBuf)> {
-    let path = std::env::var_os("PATH")?;
-    let rt = std::env::split_paths(&path)
-        .map(|folder| folder.join("rt"))
-        .find(|rt| rt.is_file())?;
-    let home = rt.canonicalize().ok()?.parent()?.parent()?.to_path_buf();
-    let programs = home
-        .join("on")
-        .join(std::env::consts::ARCH)
-        .join("toolchain");
-    let libraries = home.join("toolchain/lib");
-    let there = programs.join("bin/qemu-x86_64").is_file() && libraries.join("Scrt1.o").is_file();
-    there.then_some((programs, libraries))
-}
-
-/// The folders of C headers: the kit has none, and this machine's own say the same for the few calls of these programs.
-fn headers() -> Vec<String> {
-    let of_compiler = Command::new("cc")
-        .arg("-print-file-name=include")
-        .output()
-        .unwrap();
-    let of_compiler = String::from_utf8_lossy(&of_compiler.stdout)
-        .trim()
-        .to_string();
-    let of_machine = format!("/usr/include/{}-linux-gnu", std::env::consts::ARCH);
-    let folders = [of_compiler, of_machine, "/usr/include".to_string()];
-    folders
-        .into_iter()
-        .flat_map(|folder| ["-isystem".to_string(), folder])
-        .collect()
-}
-
-fn build_for_switch(
-    programs: &Path,
-    libraries: &Path,
-    source: &Path,
-    flags: &[&str],
-    program: &Path,
-) {
-    let object = program.with_extension("o");
-    let mut arguments: Vec<String> = ["--target=x86_64-linux-gnu", "-O2", "-fPIE"]
-        .map(String::from)
-        .to_vec();
-    arguments.extend(flags.iter().map(|flag| flag.to_string()));
-    arguments.extend(headers());
-    arguments.extend([include(), "-c".to_string(), source.display().to_string()]);
-    arguments.extend(["-o".to_string(), object.display().to_string()]);
-    build(programs.join("bin/clang"), &arguments);
-
-    let loader = "/lib64/ld-linux-x86-64.so.2";
-    let mut arguments: Vec<String> = ["-pie", "-dynamic-linker", loader]
-        .map(String::from)
-        .to_vec();
-    let of_kit = |names: &[&str]| -> Vec<String> {
-        names
-            .iter()
-            .map(|name| libraries.join(name).display().to_string())
-            .collect()
-    };
-    arguments.extend(of_kit(&["Scrt1.o", "crti.o", "crtbeginS.o"]));
-    arguments.extend(words(&[&object, &archive("staticlib")]));
-    arguments.extend(of_kit(&[
-        "libc.so.6",
-        "libc_nonshared.a",
-        "libgcc.a",
-        "crtendS.o",
-        "crtn.o",
-    ]));
-    arguments.extend(["-o".to_string(), program.display().to_string()]);
-    build(programs.join("bin/ld.lld"), &arguments);
 }
