@@ -14,7 +14,12 @@ const ARCHIVE: &str = "libmespindro.a";
 const ROOT: &str = "../..";
 
 /// What the repository's archive is made of. The paths are relative so that they are this clone's own where cargo's output was copied.
-const SOURCES: [&str; 3] = ["crates.txt", "tools/archive", "tools/prove.sh"];
+const SOURCES: [&str; 4] = [
+    "crates.txt",
+    "include/mespindro.h",
+    "tools/archive",
+    "tools/prove.sh",
+];
 
 /// What of each crate it is made of: not of out/, which the toolchain writes.
 const PARTS: [&str; 3] = ["src", "specs", "proofs"];
