@@ -1,5 +1,5 @@
 // The second rule of coherence (8): one location, one body. The first is the walk's.
-ghost use Rattle.std.specs.Prelude.{◌≡◌, true, ℕ, ◌≤◌, ◌<◌, length, get_or, set};
+ghost use Rattle.std.specs.Prelude.{◌≡◌, ◌≢◌, true, ℕ, IfSome, IfNone, ◌≤◌, ◌<◌, length, get_or, set};
 ghost use Rattle.table.specs.Checks.{IsThread, BodiesAgree, ProgramIn, ThreadsAgree};
 ghost use Rattle.table.specs.Marks.{numbered};
 
@@ -7,12 +7,16 @@ use crate::kinds::{ALLOCATED, EMPTY};
 use crate::nodes::{end_of, node_at, same_bodies};
 use calculus::Loc;
 
-// What is kept for a location: the node behind the first of its allocated abstractions, or 0 where none was met.
-fn first_of(first: &[u16], l: Loc) -> usize
+// What is kept for a location: the node behind the first of its allocated abstractions, if one was met. No body stands at node 0: it stands for none.
+fn first_of(first: &[u16], l: Loc) -> Option<usize>
     requires { l.0 < length first.now }
-    ensures { result ≡ get_or first.now l.0 0 }
+    ensures some { IfSome result (λ f. (f ≡ get_or first.now l.0 0) × (f ≢ 0)) }
+    ensures none { IfNone result (get_or first.now l.0 0 ≡ 0) }
 {
-    first[l.0 as usize] as usize
+    match first[l.0 as usize] {
+        0 => None,
+        body => Some(body as usize),
+    }
 }
 
 fn keep_first(first: &mut [u16], l: Loc, at: usize)
@@ -52,11 +56,13 @@ pub fn bodies_agree(part: &[u16], limit: usize, first: &mut [u16]) -> bool
         let body = i + 1;
         if n.kind == ALLOCATED {
             let l = Loc(n.number);
-            let f = first_of(first, l);
-            if f == 0 {
-                keep_first(first, l, body);
-            } else if !same_bodies(&part[2 * f..], &part[2 * body..]) {
-                return false;
+            match first_of(first, l) {
+                None => keep_first(first, l, body),
+                Some(f) => {
+                    if !same_bodies(&part[2 * f..], &part[2 * body..]) {
+                        return false;
+                    }
+                }
             }
         }
     }
