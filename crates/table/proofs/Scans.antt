@@ -2,7 +2,7 @@
 use mathlib.Core.Path.{◌≡◌, refl, sym, ap, ◌∙◌}
 use mathlib.Core.Bool.{Bool, true, false, cond, ◌&&◌, false≢true, true≢false}
 use mathlib.Core.List.{List, [], ◌∷◌, ◌++◌, map, append_assoc, append-nil}
-use Prim.Native.Nat.{ℕ, suc, zero, ◌+◌, ◌-◌, ◌*◌, ◌/◌, ◌%◌, ◌≤◌, ◌<◌}
+use Prim.Native.Nat.{ℕ, suc, zero, ◌+◌, ◌-◌, ◌*◌, ◌≤◌, ◌<◌}
 use native.Mathlib.Numerals.{add-one}
 use native.Mathlib.Omega.{arith}
 use borrow.Author.Tests.{ltb-true, eqb-true, lt-ltb, ne_eqb, leb-false, lt-leb}
@@ -18,7 +18,7 @@ use Rattle.calculus.specs.Answers.{number}
 use Rattle.calculus.specs.declared.Refusal.TheVariants as refusal
 use Rattle.table.specs.Checks.{unbound, Walks, nothing, loose, scoped, ScopedIn, inside}
 use Rattle.table.specs.Nodes.{kind_at, number_at, NodeIs, parts}
-use Rattle.table.specs.Pending.{Want, want, sort_where, kept, tests, may, last_part, wants, PartsPut}
+use Rattle.table.specs.Pending.{Want, want, kept, tests, may, last_part, wants, PartsPut}
 use Rattle.table.proofs.Trees.{here_node}
 use Rattle.table.proofs.Spans.{two_parts}
 
@@ -282,43 +282,31 @@ module _ (n k m : ℕ) where
   unfolding tests may
   late_kinds h = sym (get_or-eq_default (tests n term m) false h)
 
-kept_program : (p d : ℕ) → p ≡ 2 * d + 1 → kept p ≡ want program d
-kept_program p d e =
-    let h : p % 2 ≡ 1 = omega arith in
-    let q : p / 2 ≡ d = omega arith in
-    rw (h, q)
-
-kept_term : (p d : ℕ) → p ≡ 2 * d → kept p ≡ want term d
-kept_term p d e =
-    let h : p % 2 ≡ 0 = omega arith in
-    let q : p / 2 ≡ d = omega arith in
-    rw (h, q)
-
--- the code's number for the last part, by the arms of its match
-module _ (within : Bool) (d k p : ℕ) where
-  pub last_alt : k ≡ 1 → p ≡ 2 * d + 1 → kept p ≡ last_part within d k
+-- the last part, by the arms of the code's match
+module _ (within : Bool) (d k : ℕ) where
+  pub last_alt : k ≡ 1 → want program d ≡ last_part within d k
   unfolding last_part
-  last_alt e h = rw e (kept_program p d h)
+  last_alt e = rw e refl
 
-  pub last_code : k ≡ 5 → p ≡ 2 * d + 3 → kept p ≡ last_part within d k
+  pub last_code : k ≡ 5 → want program (d + 1) ≡ last_part within d k
   unfolding last_part
-  last_code e h = rw e (kept_program p (suc d) (omega arith))
+  last_code e = rw (e, add-one) refl
 
-  pub last_inside : k ≡ 6 → within ≡ true → p ≡ 3 → kept p ≡ last_part within d k
+  pub last_inside : k ≡ 6 → within ≡ true → want program 1 ≡ last_part within d k
   unfolding last_part
-  last_inside e w h = rw (e, w) (kept_program p 1 h)
+  last_inside e w = rw (e, w) refl
 
-  pub last_stored : k ≡ 6 → within ≡ false → p ≡ 2 * d + 3 → kept p ≡ last_part within d k
+  pub last_stored : k ≡ 6 → within ≡ false → want program (d + 1) ≡ last_part within d k
   unfolding last_part
-  last_stored e w h = rw (e, w) (kept_program p (suc d) (omega arith))
+  last_stored e w = rw (e, w, add-one) refl
 
-  pub last_fresh : k ≡ 8 → p ≡ 2 * d + 2 → kept p ≡ last_part within d k
+  pub last_fresh : k ≡ 8 → want term (d + 1) ≡ last_part within d k
   unfolding last_part
-  last_fresh e h = rw e (kept_term p (suc d) (omega arith))
+  last_fresh e = rw (e, add-one) refl
 
-  pub last_other : (k ≡ 1 → ⊥) → (k ≡ 5 → ⊥) → (k ≡ 6 → ⊥) → (k ≡ 8 → ⊥) → p ≡ 2 * d → kept p ≡ last_part within d k
+  pub last_other : (k ≡ 1 → ⊥) → (k ≡ 5 → ⊥) → (k ≡ 6 → ⊥) → (k ≡ 8 → ⊥) → want term d ≡ last_part within d k
   unfolding last_part
-  last_other a b f g h = rw (ne_eqb k 1 a, ne_eqb k 5 b, ne_eqb k 6 f, ne_eqb k 8 g) (kept_term p d h)
+  last_other a b f g = rw (ne_eqb k 1 a, ne_eqb k 5 b, ne_eqb k 6 f, ne_eqb k 8 g) refl
 
 two_written : (n : ℕ) (l : List ℕ) (a b : ℕ) → suc (suc n) ≤ length l → drop n (set (set l (suc n) a) n b) ≡ b ∷ a ∷ drop (suc (suc n)) l
 two_written zero [] a b h = absurd (omega arith)
@@ -334,16 +322,16 @@ kept_from (suc (suc zero)) x y l h = refl
 kept_from (suc (suc (suc j))) x y l h = absurd (omega arith)
 
 -- both places below the top are written, and the new top says which of them count
-pub parts_put : (within : Bool) (d k top p r : ℕ) (l : List ℕ) → 2 ≤ top → top ≤ length l → kept p ≡ last_part within d k → r ≡ get_or parts k 0 →
-    PartsPut within d k top l (set (set l (top - 1) p) (top - 2) (2 * d)) (top - r)
+pub parts_put : (within : Bool) (d k top p q r : ℕ) (l : List ℕ) → 2 ≤ top → top ≤ length l → kept p ≡ last_part within d k → kept q ≡ want term d → r ≡ get_or parts k 0 →
+    PartsPut within d k top l (set (set l (top - 1) p) (top - 2) q) (top - r)
 unfolding wants
-parts_put within d k top p r l h g e q =
+parts_put within d k top p q r l h g e t m =
     let few : r ≤ 2 = omega (arith, two_parts k) in
     let i : top - 1 ≡ suc (top - 2) = omega arith in
     let j : suc (suc (top - 2)) ≡ top = omega arith in
     let f : top - r ≡ (top - 2) + (2 - r) = omega arith in
-    let u : drop (top - 2) (set (set l (suc (top - 2)) p) (top - 2) (2 * d)) ≡ 2 * d ∷ p ∷ drop top l = two_written (top - 2) l p (2 * d) (omega arith) ∙ ap (λ (m : ℕ). 2 * d ∷ p ∷ drop m l) j in
-    record { low = omega arith; high = omega arith; pending = rw (f, i, ← drop-drop (2 - r) (top - 2), u, kept_from (2 - r) (2 * d) p (drop top l) (omega arith), e, kept_term (2 * d) d refl, q) refl }
+    let u : drop (top - 2) (set (set l (suc (top - 2)) p) (top - 2) q) ≡ q ∷ p ∷ drop top l = two_written (top - 2) l p q (omega arith) ∙ ap (λ (m : ℕ). q ∷ p ∷ drop m l) j in
+    record { low = omega arith; high = omega arith; pending = rw (f, i, ← drop-drop (2 - r) (top - 2), u, kept_from (2 - r) q p (drop top l) (omega arith), e, t, m) refl }
 
 -- every pending tree has at most e binders around it
 abbrev Below : ℕ → List Want → Type 0
@@ -399,8 +387,8 @@ module _ {t : List ℕ} {count limit : ℕ} {within : Bool} {end : ℕ} {pending
   pending_top h = rw (add-one, drop-cons pending top 0 (omega arith))
 
   -- no more binders are around it than nodes were passed
-  pub depth_there : top < end → get_or pending top 0 / 2 ≤ at
-  depth_there h = (rw (pending_top h) at v.depths).0
+  pub depth_there : {s : Sort} {d : ℕ} → top < end → kept (get_or pending top 0) ≡ want s d → d ≤ at
+  depth_there {s} {d} h e = let top_is : map kept (drop top pending) ≡ want s d ∷ map kept (drop (top + 1) pending) = rw (← e) (pending_top h) in (rw top_is at v.depths).0
 
   -- nothing is pending, or nothing is left to read
   none_pending : top ≡ end → map kept (drop top pending) ≡ []
@@ -437,24 +425,27 @@ module _ {t : List ℕ} {count limit : ℕ} {within : Bool} {end : ℕ} {pending
       unfolding scan
       ends_early g = found (reads (none_pending g) next_node)
 
-      module _ (g : top < end) {k m : ℕ} (o : NodeIs t at k m) where
+      module _ (g : top < end) {s : Sort} {d : ℕ} (w : kept (get_or pending top 0) ≡ want s d) {k m : ℕ} (o : NodeIs t at k m) where
+        top_wanted : map kept (drop top pending) ≡ want s d ∷ map kept (drop (top + 1) pending)
+        top_wanted = rw (← w) (pending_top g)
+
         there : drop (2 * at) (take (2 * count) t) ≡ k ∷ m ∷ drop (2 * (at + 1)) (take (2 * count) t)
         there = rw (o.kind_is, o.number_is) next_node
 
         -- the node may not stand there
-        pub ends_at : false ≡ may limit (sort_where (eqb (get_or pending top 0 % 2) 1)) k m → Walks limit within t count (walked_number within NoProgram)
+        pub ends_at : false ≡ may limit s k m → Walks limit within t count (walked_number within NoProgram)
         unfolding scan
-        ends_at e = found (rw (← e) at (reads (pending_top g) there))
+        ends_at e = found (rw (← e) at (reads top_wanted there))
 
         -- a turn of the loop
-        pub walk_on : {after : List ℕ} {r : ℕ} {b : Bool} → true ≡ may limit (sort_where (eqb (get_or pending top 0 % 2) 1)) k m → PartsPut within (get_or pending top 0 / 2) k (top + 1) pending after r → length after ≡ end → b ≡ flag k (get_or pending top 0 / 2) m bound →
+        pub walk_on : {after : List ℕ} {r : ℕ} {b : Bool} → true ≡ may limit s k m → PartsPut within d k (top + 1) pending after r → length after ≡ end → b ≡ flag k d m bound →
             Walking t count limit within end after r b (at + 1)
         unfolding scan
         walk_on e q n f =
             let ws = map kept (drop (top + 1) pending) in
-            let b : Below (at + 1) ws = below_more at ws (rw (pending_top g) at v.depths).1 in
-            let d : Below (at + 1) (wants within (get_or pending top 0 / 2) k ++ ws) = below_wants (at + 1) within (get_or pending top 0 / 2) k ws (omega (arith, depth_there g)) b in
-            record { full = n; most = omega arith; low = omega arith; high = omega arith; depths = rw q.pending d; rest = rw (q.pending, f) (rw (← e) at (reads (pending_top g) there)) }
+            let b : Below (at + 1) ws = below_more at ws (rw top_wanted at v.depths).1 in
+            let z : Below (at + 1) (wants within d k ++ ws) = below_wants (at + 1) within d k ws (omega (arith, depth_there g w)) b in
+            record { full = n; most = omega arith; low = omega arith; high = omega arith; depths = rw q.pending z; rest = rw (q.pending, f) (rw (← e) at (reads top_wanted there)) }
 
 -- too many nodes for the limit or for the table
 pub too_many : (n : ℕ) (w : Bool) (t : List ℕ) (count : ℕ) → (count ≤ n → 2 * count ≤ length t → ⊥) → Walks n w t count (walked_number w NoProgram)

@@ -3,6 +3,8 @@ use Rattle.std.specs.Prelude.{◌≡◌, Bool, true, false, cond, List, [], ◌�
 use Rattle.calculus.specs.Tree.{Sort, term, program}
 use Rattle.calculus.specs.Good.{constructors}
 use Rattle.table.specs.Nodes.{parts}
+use Rattle.table.specs.declared.walk.Sort as sorts
+use Rattle.table.specs.declared.walk.Sort.TheVariants.{Program, Term}
 
 -- a tree that is still to stand: its sort, and how many binders are around it
 pub data Want : Type 0 where
@@ -11,6 +13,11 @@ pub data Want : Type 0 where
 abbrev pub sort_where : Bool → Sort
 sort_where true = program
 sort_where false = term
+
+-- the sort that the code names
+abbrev pub sort_of : sorts.Sort → Sort
+sort_of Program = program
+sort_of Term = term
 
 -- one number keeps it: twice the binders, and 1 more for a program
 abbrev pub kept : ℕ → Want
