@@ -12,14 +12,14 @@ use table::Checked;
 use table::kinds::EMPTY;
 use table::nodes::node_at;
 
-// A part of a table: its first number, and how many numbers.
+/// A part of a table: its first number, and how many numbers.
 #[derive(Clone, Copy)]
 pub struct Span {
     pub start: usize,
     pub length: usize,
 }
 
-// The first node of the thread whose alternative node is at `at`; none where the empty node ends the program.
+/// The first node of the thread whose alternative node is at `at`; none where the empty node ends the program.
 fn thread_behind(t: &[u16], at: usize) -> Option<usize>
     requires { 2 * at + 2 ≤ length t.now }
     ensures { result ≡ thread_behind t.now at }
@@ -30,7 +30,7 @@ fn thread_behind(t: &[u16], at: usize) -> Option<usize>
     Some(at + 1)
 }
 
-// Where thread k of the program at the front stands: its first node. Each thread before it is passed by one jump.
+/// Where thread k of the program at the front stands: its first node. Each thread before it is passed by one jump.
 #[tactic(auto, using(crate::proofs::PlaceOfFacts::placing))]
 pub fn place_of(t: &[u16], column: &[u16], k: usize) -> Option<usize>
     requires { ProgramAt t.now column.now }
@@ -44,7 +44,7 @@ pub fn place_of(t: &[u16], column: &[u16], k: usize) -> Option<usize>
     thread_behind(t, at)
 }
 
-// Where the thread's own part of the table is, its term's nodes without the alternative node. Empty exactly when the standing call refuses.
+/// Where the thread's own part of the table is, its term's nodes without the alternative node. Empty exactly when the standing call refuses.
 pub fn span_of(
     t: &[u16],
     column: &[u16],
@@ -71,7 +71,7 @@ pub fn span_of(
     }
 }
 
-// The thread's own part of the table, no copy.
+/// The thread's own part of the table, no copy.
 pub fn thread<'a>(
     t: &'a [u16],
     column: &[u16],
