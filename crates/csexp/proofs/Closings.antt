@@ -124,7 +124,8 @@ pub none_taken : {s : List ℕ} {at : ℕ} {e : Torn} → Takes s at (Err e) →
 none_taken (cut n q g) b = n b
 none_taken {s} {at} (bad p a l n q g) b = n (drop (suc p - at) (drop at s)) (rw take-append-drop b)
 
-item_bytes_lem : (s : List ℕ) (i : Item) → ItemBytes (item_bytes s i)
+-- an item's bytes are some
+pub item_bytes_lem : (s : List ℕ) (i : Item) → ItemBytes (item_bytes s i)
 item_bytes_lem s Open = opening
 item_bytes_lem s Close = closing
 item_bytes_lem s (Atom place n) = of_atom (take n (drop place s))

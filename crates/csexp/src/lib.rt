@@ -12,7 +12,7 @@ pub struct Cursor {
 }
 
 // A bracket, or an atom: where its bytes begin, and how many there are.
-#[derive(Clone, Copy)]
+#[derive(Clone, Copy, PartialEq, Eq)]
 pub enum Item {
     Open,
     Close,

@@ -4,7 +4,6 @@ ghost use Rattle.calculus.specs.Answers.{counted_values};
 ghost use Rattle.calculus.specs.Sheets.{sheet};
 ghost use Rattle.calculus.specs.Calls.{Reads};
 
-use crate::Parsed;
 use crate::parse::parse;
 use calculus::{Counted, Refusal};
 use column::renew::count_column;
@@ -41,10 +40,8 @@ pub fn read(
         return Counted::Refused(Refusal::NotCanonical);
     }
     let nodes = match parse(text, limit, build, goals) {
-        Parsed::Out => return Counted::Refused(Refusal::OutOfPlace),
-        Parsed::Bad => return Counted::Refused(Refusal::BadNumber),
-        Parsed::Loose => return Counted::Refused(Refusal::NoBinder),
-        Parsed::Nodes(n) => n,
+        Ok(nodes) => nodes,
+        Err(refusal) => return Counted::Refused(refusal),
     };
     if limit < nodes {
         return Counted::Refused(Refusal::TooManyNodes);
