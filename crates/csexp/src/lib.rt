@@ -5,13 +5,13 @@ ghost use Rattle.std.specs.Prelude.{◌≡◌, ◌+◌, ◌-◌, ◌*◌, ◌^�
 ghost use Rattle.csexp.specs.Items.{Takes, TakesNumber, taken_number, OneExpression};
 ghost use Rattle.csexp.specs.Lengths.{LengthKept};
 
-// The reading place. A reader that has taken one item hands its place on to the next.
+/// The reading place. A reader that has taken one item hands its place on to the next.
 #[derive(Clone, Copy)]
 pub struct Cursor {
     pub at: usize,
 }
 
-// A bracket, or an atom: where its bytes begin, and how many there are.
+/// A bracket, or an atom: where its bytes begin, and how many there are.
 #[derive(Clone, Copy, PartialEq, Eq)]
 pub enum Item {
     Open,
@@ -19,7 +19,7 @@ pub enum Item {
     Atom(usize, usize),
 }
 
-// Why no item is taken: the text ends within it, or the byte at a place can't begin or continue one.
+/// Why no item is taken: the text ends within it, or the byte at a place can't begin or continue one.
 #[derive(Clone, Copy)]
 pub enum Torn {
     Cut,
@@ -72,7 +72,7 @@ impl Cursor {
         Cursor { at: 0 }
     }
 
-    // The item at the cursor, and the cursor behind it.
+    /// The item at the cursor, and the cursor behind it.
     pub fn take(self, s: &[u8]) -> Result<(Item, Cursor), Torn>
         ensures takes { Takes s.now self.at result }
         ensures takes_number { TakesNumber s.now self.at (taken_number result) }
@@ -90,7 +90,7 @@ impl Cursor {
     }
 }
 
-// Is the whole text exactly one expression? `depth` brackets are open.
+/// Is the whole text exactly one expression? `depth` brackets are open.
 pub fn is_one(s: &[u8]) -> bool
     ensures { OneExpression s.now result }
 {

@@ -3,12 +3,12 @@ use mathlib.Core.Path.{◌≡◌, refl, sym, ap, ◌∙◌}
 use mathlib.Core.Logic.{◌⊎◌, inl, inr}
 use mathlib.Core.List.{List, [], ◌∷◌}
 use Prim.Native.Nat.{ℕ, zero, suc, ◌+◌, ◌-◌, ◌*◌, ◌^◌, ◌≤◌, ◌<◌}
-use native.Mathlib.Nat.{add-zero, pow-suc, pow-le-pow_right}
+use native.Mathlib.Nat.{pow-suc, pow-le-pow_right}
 use native.Mathlib.Numerals.{add-one}
 use native.Mathlib.Omega.{arith}
 use borrow.Author.Count.{below_none, below_more}
 use lib.ListN.{length, get_or, take, drop, length-take, length-drop}
-use lib.Seq.{drop-cons, drop-length, get_or-take, get_or-drop}
+use lib.Seq.{drop-cons, drop-length}
 use Rattle.calculus.specs.Sexp.{decimal}
 use Rattle.calculus.proofs.Decimals.{Digits, PlainDecimal, number_from, number_of, decimal_plain, number_of_decimal, decimal_of_number, decimal_length}
 use Rattle.calculus.specs.Answers.{Values}

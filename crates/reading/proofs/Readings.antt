@@ -7,6 +7,7 @@ use Prim.Native.Nat.{ℕ, ◌*◌, ◌≤◌, ◌<◌}
 use native.Mathlib.Omega.{arith}
 use lib.ListN.{length, get_or, take, drop}
 use lib.Seq.{sets, slice, length-take-le}
+use Rattle.std.specs.Prelude.{Result, Ok, Err, is_ok}
 use Rattle.calculus.specs.declared.Refusal.{Refusal}
 use Rattle.calculus.specs.declared.Refusal.TheVariants as refusal
 use Rattle.calculus.specs.Tree.{program, Tree, nodes, preorder, threads}
@@ -21,10 +22,8 @@ use Rattle.calculus.proofs.Preorders.{preorder_length}
 use Rattle.calculus.proofs.Outcomes.{text_of_unique, table_of_unique}
 use Rattle.csexp.specs.Items.{OneExpression}
 use Rattle.table.specs.Checks.{checked_number, Checks}
-use Rattle.table.specs.declared.Checked.{Checked}
-use Rattle.table.specs.declared.Checked.TheVariants.{Refused}
 use Rattle.table.proofs.Sets.{sets_front}
-use Rattle.table.proofs.Verdicts.{AdmittedIn, refused_there}
+use Rattle.table.proofs.Verdicts.{AdmittedIn, admitted_there, refused_there}
 use Rattle.column.specs.Sizes.{Countable, all_nodes, CountedAfresh}
 use Rattle.reading.specs.Reading.{none_found, Parses, out, bad, loose, of_nodes}
 
@@ -118,6 +117,11 @@ module _ {n : ℕ} {b build : List ℕ} {m : ℕ} (h : ParsedThere n b build m) 
   pub load : m ≤ n → 2 * n ≤ length build → Loaded n b build m
   load l r = record { parsed = h; table_of = record { counts = h.counts; small = l; within = omega arith; is = h.stored (omega arith); ranges = h.text_of.ranges } }
 
+-- what the check admits is a program's table
+pub admits : {n count : ℕ} {t : List ℕ} (r : Result Unit Refusal) → true ≡ is_ok r → Checks n t count (checked_number r) → AdmittedIn n t count
+admits (Ok u) e k = admitted_there refl k
+admits (Err q) e k = absurd (cc)
+
 -- Its nodes are not too many.
 module _ {n : ℕ} {b build : List ℕ} {m : ℕ} (h : Loaded n b build m) where
   abbrev this : Tree program
@@ -143,9 +147,10 @@ module _ {n : ℕ} {b build : List ℕ} {m : ℕ} (h : Loaded n b build m) where
   not_coherent r (inr (f, inr (k, inr g))) c = absurd g.1
 
   -- a thread is not coherent
-  pub read_incoherent : {into : Sheet} {r : Checked} {q : Refusal} → r ≡ Refused q → Checks n build m (checked_number r) → Reads n b into (none_found refusal.Incoherent) into
-  read_incoherent {into} e k =
-      let s = refused_there e k in
+  pub read_incoherent : {into : Sheet} (r : Result Unit Refusal) → false ≡ is_ok r → Checks n build m (checked_number r) → Reads n b into (none_found refusal.Incoherent) into
+  read_incoherent (Ok u) e k = absurd (cc)
+  read_incoherent {into} (Err q) e k =
+      let s = refused_there refl k in
       refused refusal.Incoherent (past_seven into refusal.Incoherent (inl ((this, (h.parsed.text_of, not_coherent s.0 s.1.1)), refl)))
 
   -- The check admits a program: it is this one.

@@ -3,7 +3,7 @@
 ghost use Rattle.std.specs.Prelude.{◌+◌, ◌<◌, ◌≤◌, length};
 ghost use Rattle.reading.specs.Descent.{Announces, Pushes};
 
-// What a goal asks for: a term; the members of a program with its closing bracket; an opening bracket; a closing one; or one that ends a binder.
+/// What a goal asks for: a term; the members of a program with its closing bracket; an opening bracket; a closing one; or one that ends a binder.
 #[derive(Clone, Copy)]
 pub enum Goal {
     Term,
@@ -16,7 +16,7 @@ pub enum Goal {
 impl Goal {
     ghost use Rattle.reading.specs.Descent.{Codes};
 
-    // The goal of a cell. Any number but the first four is that of a bracket that ends a binder.
+    /// The goal of a cell. Any number but the first four is that of a bracket that ends a binder.
     pub(crate) fn of(cell: u8) -> Goal
         ensures { Codes result cell }
     {
@@ -30,14 +30,14 @@ impl Goal {
     }
 }
 
-// Where the next goal stands, and the binders around it: as many as the goals that end one.
+/// Where the next goal stands, and the binders around it: as many as the goals that end one.
 #[derive(Clone, Copy)]
 pub struct Waiting {
     pub top: usize,
     pub binders: usize,
 }
 
-// One more goal, before those that wait.
+/// One more goal, before those that wait.
 pub fn push(goals: &mut [u8], top: usize, goal: u8) -> usize
     requires { (0 < top) × (top ≤ length goals.old) }
     ensures { Pushes goal goals.old top result goals.new }
@@ -47,7 +47,7 @@ pub fn push(goals: &mut [u8], top: usize, goal: u8) -> usize
     next
 }
 
-// What a tag announces, up to the closing bracket.
+/// What a tag announces, up to the closing bracket.
 pub fn announced(tag: u8, w: Waiting, goals: &mut [u8]) -> Waiting
     requires { (3 ≤ w.top) × (w.top ≤ length goals.old) × (w.binders < length goals.old) }
     ensures { Announces tag w goals.old result goals.new }

@@ -16,21 +16,21 @@ fn bracket(s: &[u8], c: Cursor, which: Item) -> Option<Cursor>
     }
 }
 
-// Behind an opening bracket, where one is next.
+/// Behind an opening bracket, where one is next.
 pub fn open_at(s: &[u8], c: Cursor) -> Option<Cursor>
     ensures { FoundAt 40 s.now c.at result }
 {
     bracket(s, c, Item::Open)
 }
 
-// The same for a closing one.
+/// The same for a closing one.
 pub fn close_at(s: &[u8], c: Cursor) -> Option<Cursor>
     ensures { FoundAt 41 s.now c.at result }
 {
     bracket(s, c, Item::Close)
 }
 
-// An atom: where its bytes begin, how many there are, and the cursor behind it.
+/// An atom: where its bytes begin, how many there are, and the cursor behind it.
 pub fn atom_at(s: &[u8], c: Cursor) -> Option<(usize, usize, Cursor)>
     ensures { AtomAt s.now c.at result }
 {
@@ -43,7 +43,7 @@ pub fn atom_at(s: &[u8], c: Cursor) -> Option<(usize, usize, Cursor)>
     Some((place, n, next))
 }
 
-// A term's tag of one byte, behind its opening bracket, and the cursor behind it.
+/// A term's tag of one byte, behind its opening bracket, and the cursor behind it.
 pub fn tag_at(s: &[u8], c: Cursor) -> Option<(u8, Cursor)>
     ensures { TagAt s.now c.at result }
 {

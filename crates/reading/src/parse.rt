@@ -14,7 +14,7 @@ use table::kinds::{
 };
 use table::nodes::put_node;
 
-// What a descent has met: the nodes, and whether an N was bad or an index without its binder.
+/// What a descent has met: the nodes, and whether an N was bad or an index without its binder.
 #[derive(Clone, Copy)]
 pub struct Met {
     pub nodes: usize,
@@ -203,7 +203,7 @@ fn descend(
     Some((at, met))
 }
 
-// The whole text as one program, and its nodes. The goals are lent: what is still to be read.
+/// The whole text as one program, and its nodes. The goals are lent: what is still to be read.
 pub fn parse(s: &[u8], limit: usize, build: &mut [u16], goals: &mut [u8]) -> Result<usize, Refusal>
     requires limit_bound { limit < 65536 }
     requires s_in_bounds { length s.now + 2 ≤ length goals.old }

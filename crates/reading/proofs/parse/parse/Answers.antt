@@ -6,7 +6,7 @@ use Rattle.std.proofs.lemmas.Result.{err_from_is_err_and}
 use Rattle.calculus.specs.declared.Refusal.{Refusal}
 use Rattle.calculus.specs.declared.Refusal.TheVariants.{OutOfPlace}
 use Rattle.reading.specs.Descent.{Descent}
-use Rattle.reading.proofs.Descents.{parse_out, Whole, whole, parse_more, parse_bad, parse_loose, parse_nodes}
+use Rattle.reading.proofs.Descents.{parse_out, whole, parse_more, parse_bad, parse_loose, parse_nodes}
 use Rattle.reading.proofs.parse.parse.Goals as goal
 
 pub returns-in_err-c : goal.returns-in_err-c
