@@ -18,12 +18,9 @@ fn put_all(out: &mut [u8], to: usize, b: &[u8]) -> usize
     requires { BytesFit out.old to b.now }
     ensures { Wrote out.old out.new to result b.now }
 {
-    let mut i: usize = 0;
-    while i < b.len() {
-        out[to + i] = b[i];
-        i += 1;
-    }
-    to + i
+    let end = to + b.len();
+    out[to..end].copy_from_slice(b);
+    end
 }
 
 // The report of a refusal.
