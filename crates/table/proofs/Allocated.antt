@@ -3,18 +3,19 @@ use mathlib.Core.Path.{◌≡◌, refl, sym, ap, ◌∙◌}
 use mathlib.Core.Logic.{inl, inr, ⊎_elim}
 use mathlib.Core.Bool.{Bool, true, false}
 use mathlib.Core.List.{List}
-use Prim.Native.Nat.{ℕ, ◌+◌, ◌*◌, ◌≤◌, ◌<◌}
+use Prim.Native.Nat.{ℕ, ◌+◌, ◌*◌, ◌/◌, ◌≤◌, ◌<◌}
 use native.Mathlib.Omega.{arith}
 use native.Mathlib.Nat.{eq-or-lt_of_le}
 use native.Mathlib.Decide.{dec_lt}
 use lib.Dec.{eqb}
-use lib.ListN.{length}
+use lib.ListN.{length, take}
+use lib.Seq.{length-take-le, get_or-take}
 use borrow.Author.Tests.{eqb-true, eqb-false}
 use Rattle.calculus.specs.Tree.{Sort, term, program, Head, code, at, Tree, empty, alt, bound, free, con, abs, fresh, two, preorder, nodes}
 use Rattle.calculus.specs.Good.{HeadInRange, InRange, Here, Holds, HoldsClosure}
 use Rattle.calculus.proofs.Preorders.{preorder_length}
 use Rattle.calculus.proofs.Preservation.{Among}
-use Rattle.table.specs.Nodes.{kind_at, number_at, NodeIs, Stands}
+use Rattle.table.specs.Nodes.{kind_at, number_at, NodeIs, NoneOf, Stands}
 use Rattle.table.specs.Checks.{IsThread, NoneAllocated}
 use Rattle.table.proofs.Positions.{NodeWith}
 use Rattle.table.proofs.Trees.{Seen, see, IsBody, term_at, program_at, moved, at_front}
@@ -153,35 +154,44 @@ module _ {t : List ℕ} {count : ℕ} {r : Bool} (h : NoneAllocated t count r) (
   pub one_held : r ≡ false → HoldsClosure p
   one_held f = let (k, (b, is)) = h.some f in let c = stands_held t k is 0 p w (omega arith) (omega arith) in (_, (c.body, c.holds))
 
--- On the way along the nodes: none is allocated of those before i,
-pub record NonePassed (t : List ℕ) (i : ℕ) : Type 0 where
-  pub none : (k : ℕ) → k < i → kind_at t k ≡ 6 → ⊥
+-- On the way along the nodes: none of those before i has the kind,
+pub record NonePassed (t : List ℕ) (kind i : ℕ) : Type 0 where
+  pub none : (k : ℕ) → k < i → kind_at t k ≡ kind → ⊥
 
--- or one is.
-pub record OnePassed (t : List ℕ) (i : ℕ) : Type 0 where
+-- or one has it.
+pub record OnePassed (t : List ℕ) (kind i : ℕ) : Type 0 where
   pub node : ℕ
   pub before : node < i
-  pub kind_is : kind_at t node ≡ 6
+  pub kind_is : kind_at t node ≡ kind
 
 -- before the first there is none
-pub none_yet : (t : List ℕ) → NonePassed t 0
-none_yet t = record { none = λ k b. absurd (omega arith) }
+pub none_yet : (t : List ℕ) (kind : ℕ) → NonePassed t kind 0
+none_yet t kind = record { none = λ k b. absurd (omega arith) }
 
--- one node more that is none
-pub none_more : {t : List ℕ} {i k m : ℕ} → NonePassed t i → NodeIs t i k m → (k ≡ 6 → ⊥) → NonePassed t (i + 1)
-none_more {i} f q c = record { none = λ j b s. let h : j ≤ i = omega arith in ⊎_elim (λ (e : j ≡ i). c (q.kind_is ∙ rw (← e) s)) (λ l. f.none j l s) (eq-or-lt_of_le h) }
+-- one node more that has another kind
+pub none_more : {t : List ℕ} {kind i k m : ℕ} → NonePassed t kind i → NodeIs t i k m → (k ≡ kind → ⊥) → NonePassed t kind (i + 1)
+none_more {i = i} f q c = record { none = λ j b s. let h : j ≤ i = omega arith in ⊎_elim (λ (e : j ≡ i). c (q.kind_is ∙ rw (← e) s)) (λ l. f.none j l s) (eq-or-lt_of_le h) }
 
--- one that is
-pub one_more : {t : List ℕ} {i k m : ℕ} → NodeIs t i k m → k ≡ 6 → OnePassed t (i + 1)
+-- one that has it
+pub one_more : {t : List ℕ} {kind i k m : ℕ} → NodeIs t i k m → k ≡ kind → OnePassed t kind (i + 1)
 one_more {i = i} q e = record { node = i; before = omega arith; kind_is = sym q.kind_is ∙ e }
 
 -- what was passed stays so
-pub one_still : {t : List ℕ} {i : ℕ} → OnePassed t i → OnePassed t (i + 1)
+pub one_still : {t : List ℕ} {kind i : ℕ} → OnePassed t kind i → OnePassed t kind (i + 1)
 one_still o = record { node = o.node; before = omega (arith, o.before); kind_is = o.kind_is }
 
 -- behind the last, what was counted tells
-pub passed_told : {t : List ℕ} {i count found : ℕ} → count ≤ i → i ≤ count → (found ≡ 0 → NonePassed t i) → (0 < found → OnePassed t i) → NoneAllocated t count (eqb found 0)
-passed_told {found = found} h l f g = record {
+pub passed_told : {t : List ℕ} {kind i found : ℕ} → i ≡ length t / 2 → (found ≡ 0 → NonePassed t kind i) → (0 < found → OnePassed t kind i) → NoneOf t kind (eqb found 0)
+passed_told {found = found} h f g = record {
   none = λ e k b. (f (eqb-true found 0 e)).none k (omega arith);
   some = λ e. let some : found ≡ 0 → ⊥ = eqb-false found 0 e in let o = g (omega arith) in (o.node, (omega (arith, o.before), o.kind_is));
 }
+
+-- of the first nodes of a table
+pub none_of_front : {t : List ℕ} {count : ℕ} {r : Bool} → 2 * count ≤ length t → NoneOf (take (2 * count) t) 6 r → NoneAllocated t count r
+none_of_front {t} {count} fits h =
+    let long : length (take (2 * count) t) ≡ 2 * count = length-take-le (2 * count) t fits in
+    record {
+      none = λ e k b is. h.none e k (omega arith) (get_or-take (2 * count) t (2 * k) 0 (omega arith) ∙ is);
+      some = λ e. let (k, (b, is)) = h.some e in (k, (omega arith, sym (get_or-take (2 * count) t (2 * k) 0 (omega arith)) ∙ is));
+    }

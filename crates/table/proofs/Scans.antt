@@ -14,13 +14,25 @@ use Rattle.calculus.specs.Good.{InRange, HeadInRange, constructors}
 use Rattle.calculus.specs.Calls.{TableOf}
 use Rattle.calculus.proofs.Preorders.{preorder_length}
 use Rattle.calculus.proofs.Substitutes.{impossible}
-use Rattle.table.specs.Checks.{walked_number, Walks, nothing, loose, scoped, ScopedIn, inside}
+use Rattle.calculus.specs.Answers.{number}
+use Rattle.calculus.specs.declared.Refusal.TheVariants as refusal
+use Rattle.table.specs.Checks.{unbound, Walks, nothing, loose, scoped, ScopedIn, inside}
 use Rattle.table.specs.Nodes.{kind_at, number_at, NodeIs, parts}
 use Rattle.table.specs.Pending.{Want, want, sort_where, kept, tests, may, last_part, wants, PartsPut}
-use Rattle.table.specs.declared.Walked.{Walked}
-use Rattle.table.specs.declared.Walked.TheVariants.{NoProgram, Loose, Scoped}
 use Rattle.table.proofs.Trees.{here_node}
 use Rattle.table.proofs.Spans.{two_parts}
+
+-- What a walk finds: no program, a program with an index that has no binder, or one without.
+pub data Walked : Type 0 where
+  NoProgram : Walked
+  Loose : Walked
+  Scoped : Walked
+
+-- its number
+abbrev pub walked_number : Bool → Walked → ℕ
+walked_number within NoProgram = number refusal.NoProgram
+walked_number within Loose = number (unbound within)
+walked_number within Scoped = 0
 
 never : (b : Bool) → NoProgram ≡ cond b Scoped Loose → ⊥
 never true e = impossible (cc)

@@ -18,11 +18,8 @@ use Rattle.calculus.proofs.Outcomes.{table_of_unique}
 use Rattle.calculus.proofs.Preorders.{nodes_positive}
 use Rattle.calculus.proofs.Closures.{plain_coherent}
 use Rattle.table.specs.Nodes.{Stands}
-use Rattle.table.specs.Checks.{walked_number, Walks, nothing, loose, scoped, OneBody, ProgramIn, ThreadsAgree, NoneAllocated, in_force, checked_number, Checks, admitted, refused}
-use Rattle.table.specs.declared.Walked.{Walked}
-use Rattle.table.specs.declared.Walked.TheVariants.{NoProgram, Loose, Scoped}
-use Rattle.table.specs.declared.Checked.{Checked}
-use Rattle.table.specs.declared.Checked.TheVariants.{Admitted, Refused}
+use Rattle.std.specs.Prelude.{Result, Ok, Err}
+use Rattle.table.specs.Checks.{Walks, nothing, loose, scoped, OneBody, ProgramIn, ThreadsAgree, NoneAllocated, in_force, checked_number, Checks, admitted, refused}
 use Rattle.table.proofs.Allocated.{none_held}
 use Rattle.table.proofs.Scopes.{Within, scoped_closed, closed_scoped, within_threads, threads_within}
 
@@ -68,23 +65,11 @@ module _ {n : ℕ} {t : List ℕ} {count : ℕ} where
   pub none_fits : n ≡ 0 → Checks n t count 1
   none_fits e = refused refusal.NoProgram (inl ((λ p h. let c = h.counts in let s = h.small in omega (arith, nodes_positive p)), refl))
 
-  -- a walk finds no program
-  pub none_walked : {r : Walked} → r ≡ NoProgram → Walks n false t count (walked_number false r) → Checks n t count 1
-  none_walked e h = go h (ap (walked_number false) e)
-    where
-      go : {m : ℕ} → Walks n false t count m → m ≡ 1 → Checks n t count 1
-      go (nothing f) e = refused refusal.NoProgram (inl (f, refl))
-      go (loose p h f) e = absurd (omega arith)
-      go (scoped p h f) e = absurd (omega arith)
-
-  -- the walk that counts every binder finds an index without one
-  pub loose_walked : {r : Walked} → r ≡ Loose → Walks n false t count (walked_number false r) → Checks n t count 6
-  loose_walked e h = go h (ap (walked_number false) e)
-    where
-      go : {m : ℕ} → Walks n false t count m → m ≡ 6 → Checks n t count 6
-      go (nothing f) e = absurd (omega arith)
-      go (loose p h f) e = refused refusal.NoBinder (inr ((λ g. g p h), inl ((p, (h, λ c. f (closed_scoped 0 p c))), refl)))
-      go (scoped p h f) e = absurd (omega arith)
+  -- the walk that counts every binder finds no program, or an index without one
+  pub walked_refused : {m : ℕ} → (m ≡ 0 → ⊥) → Walks n false t count m → Checks n t count m
+  walked_refused g (nothing f) = refused refusal.NoProgram (inl (f, refl))
+  walked_refused g (loose p h f) = refused refusal.NoBinder (inr ((λ k. k p h), inl ((p, (h, λ c. f (closed_scoped 0 p c))), refl)))
+  walked_refused g (scoped p h f) = absurd (g refl)
 
 -- a closed program stands there
 pub record ClosedIn (n : ℕ) (t : List ℕ) (count : ℕ) : Type 0 where
@@ -93,20 +78,11 @@ pub record ClosedIn (n : ℕ) (t : List ℕ) (count : ℕ) : Type 0 where
   pub closed : Closed 0 program_there
 
 module _ {n : ℕ} {t : List ℕ} {count : ℕ} where
-  -- it finds none
-  pub closed_walked : {r : Walked} → r ≡ Scoped → Walks n false t count (walked_number false r) → ClosedIn n t count
-  closed_walked e h = go h (ap (walked_number false) e)
-    where
-      go : {m : ℕ} → Walks n false t count m → m ≡ 0 → ClosedIn n t count
-      go (nothing f) e = absurd (omega arith)
-      go (loose p h f) e = absurd (omega arith)
-      go (scoped p h f) e = record { program_there = p; table_of = h; closed = scoped_closed 0 p f }
-
--- 0 is the number of one answer only
-scoped_only : (r : Walked) → walked_number true r ≡ 0 → r ≡ Scoped
-scoped_only NoProgram e = absurd (omega arith)
-scoped_only Loose e = absurd (omega arith)
-scoped_only Scoped e = refl
+  -- it finds neither
+  pub closed_walked : {m : ℕ} → m ≡ 0 → Walks n false t count m → ClosedIn n t count
+  closed_walked e (nothing f) = absurd (omega arith)
+  closed_walked e (loose p h f) = absurd (omega arith)
+  closed_walked e (scoped p h f) = record { program_there = p; table_of = h; closed = scoped_closed 0 p f }
 
 module _ {n : ℕ} {t : List ℕ} {count : ℕ} (c : ClosedIn n t count) where
   abbrev this : Tree program
@@ -130,14 +106,11 @@ module _ {n : ℕ} {t : List ℕ} {count : ℕ} (c : ClosedIn n t count) where
   incoherent f = refused refusal.Incoherent (inr (there, inr (closed_all, inl ((this, (c.table_of, f)), refl))))
 
   -- the walk that counts only the binders inside an allocated abstraction finds an index without one
-  pub not_within : {r : Walked} → (r ≡ Scoped → ⊥) → Walks n true t count (walked_number true r) → Checks n t count 8
-  not_within {r} g h = go h (λ e. g (scoped_only r e))
-    where
-      go : {m : ℕ} → Walks n true t count m → (m ≡ 0 → ⊥) → Checks n t count 8
-      go (nothing f) g = absurd (there f)
-      go (loose p h f) g =
-          incoherent (λ a. f (rw (table_of_unique h c.table_of) (threads_within this c.closed (all_each Coherent Within (threads this) (λ x k. k.within) a))))
-      go (scoped p h f) g = absurd (g refl)
+  pub not_within : {m : ℕ} → (m ≡ 0 → ⊥) → Walks n true t count m → Checks n t count m
+  not_within g (nothing f) = absurd (there f)
+  not_within g (loose p h f) =
+      incoherent (λ a. f (rw (table_of_unique h c.table_of) (threads_within this c.closed (all_each Coherent Within (threads this) (λ x k. k.within) a))))
+  not_within g (scoped p h f) = absurd (g refl)
 
   -- two allocated abstractions of a thread with one location differ
   pub not_equal : {b : Bool} → b ≡ false → ThreadsAgree t b → Checks n t count 8
@@ -159,10 +132,10 @@ module _ {n : ℕ} {t : List ℕ} {count : ℕ} (c : ClosedIn n t count) where
   none_coherent e f = let h = c.table_of in coherent_admitted (plain_coherent this (none_held f this (table_stands h) h.counts e))
 
   -- neither
-  pub all_coherent : {r : Walked} {b : Bool} → r ≡ Scoped → Walks n true t count (walked_number true r) → b ≡ true → ThreadsAgree t b → Checks n t count 0
+  pub all_coherent : {m : ℕ} {b : Bool} → m ≡ 0 → Walks n true t count m → b ≡ true → ThreadsAgree t b → Checks n t count 0
   all_coherent e w d a =
       let one = a.agree d this (table_stands c.table_of) in
-      coherent_admitted (all_with (λ x k o. record { within = k; equal = o }) (threads this) (within_all (ap (walked_number true) e) w) one)
+      coherent_admitted (all_with (λ x k o. record { within = k; equal = o }) (threads this) (within_all e w) one)
 
 -- an admitted program stands there
 pub record AdmittedIn (n : ℕ) (t : List ℕ) (count : ℕ) : Type 0 where
@@ -173,7 +146,7 @@ pub record AdmittedIn (n : ℕ) (t : List ℕ) (count : ℕ) : Type 0 where
 
 module _ {n : ℕ} {t : List ℕ} {count : ℕ} where
   -- the check admits: a good program stands there
-  pub admitted_there : {r : Checked} → r ≡ Admitted → Checks n t count (checked_number r) → AdmittedIn n t count
+  pub admitted_there : {r : Result Unit Refusal} {u : Unit} → r ≡ Ok u → Checks n t count (checked_number r) → AdmittedIn n t count
   admitted_there {r} e h = go h (ap checked_number e)
     where
       go : {m : ℕ} → Checks n t count m → m ≡ 0 → AdmittedIn n t count
@@ -181,7 +154,7 @@ module _ {n : ℕ} {t : List ℕ} {count : ℕ} where
       go (refused q g) e = absurd (omega (arith, number_positive q))
 
   -- the check refuses: the first condition that holds has the answer's number
-  pub refused_there : {r : Checked} {q : Refusal} → r ≡ Refused q → Checks n t count (checked_number r) → (s : Refusal) × ((number s ≡ number q) × Refuses (plain_refusals n t count) s)
+  pub refused_there : {r : Result Unit Refusal} {q : Refusal} → r ≡ Err q → Checks n t count (checked_number r) → (s : Refusal) × ((number s ≡ number q) × Refuses (plain_refusals n t count) s)
   refused_there {q} e h = go h (ap checked_number e)
     where
       go : {m : ℕ} → Checks n t count m → m ≡ number q → (s : Refusal) × ((number s ≡ number q) × Refuses (plain_refusals n t count) s)

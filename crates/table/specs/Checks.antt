@@ -1,5 +1,5 @@
 -- What the checks of a table answer.
-use Rattle.std.specs.Prelude.{◌≡◌, Bool, true, false, cond, List, ℕ, suc, ◌-◌, ◌≤◌, ◌<◌, min}
+use Rattle.std.specs.Prelude.{◌≡◌, Result, Ok, Err, Bool, true, false, cond, List, ℕ, suc, ◌-◌, ◌≤◌, ◌<◌, min}
 use Rattle.calculus.specs.Tree.{Sort, term, program, Head, code, at, Tree, empty, alt, bound, free, con, abs, fresh, two, preorder, nodes, threads}
 use Rattle.calculus.specs.Good.{InRange, Holds, All, Good}
 use Rattle.calculus.specs.Calls.{Accepts, Refuses, TableOf, plain_refusals}
@@ -7,10 +7,8 @@ use Rattle.calculus.specs.Answers.{number}
 use Rattle.calculus.specs.declared.Refusal.{Refusal}
 use Rattle.calculus.specs.declared.Refusal.TheVariants as refusal
 use Rattle.table.specs.Nodes.{kind_at, Stands}
-use Rattle.table.specs.declared.Walked.{Walked}
-use Rattle.table.specs.declared.Walked.TheVariants.{NoProgram, Loose, Scoped}
-use Rattle.table.specs.declared.Checked.{Checked}
-use Rattle.table.specs.declared.Checked.TheVariants.{Admitted, Refused}
+use Rattle.table.specs.declared.walk.Scope.{Scope}
+use Rattle.table.specs.declared.walk.Scope.TheVariants.{Program, Closures}
 
 -- binders around a closure's body: only its own where the scope is said within it
 abbrev pub inside : Bool → ℕ → Head → ℕ
@@ -32,11 +30,15 @@ ScopedIn within d (two o s t) = ScopedIn within d s × ScopedIn within d t
 abbrev pub unbound : Bool → Refusal
 unbound within = cond within refusal.Incoherent refusal.NoBinder
 
--- document 01's number for what a walk finds: 0 where every index has its binder
-abbrev pub walked_number : Bool → Walked → ℕ
-walked_number within NoProgram = number refusal.NoProgram
-walked_number within Loose = number (unbound within)
-walked_number within Scoped = 0
+-- whether the scope is said within allocated abstractions
+abbrev pub within : Scope → Bool
+within Program = false
+within Closures = true
+
+-- document 01's number for what a walk or a check answers: 0 where it refuses nothing
+abbrev pub checked_number : Result Unit Refusal → ℕ
+checked_number (Ok u) = 0
+checked_number (Err r) = number r
 
 -- what a walk over the nodes finds: no program with its numbers in range; one with an index that has no binder; one without
 pub data Walks (n : ℕ) (within : Bool) (t : List ℕ) (count : ℕ) : ℕ → Type 0 where
@@ -79,11 +81,6 @@ pub record NoneAllocated (t : List ℕ) (count : ℕ) (r : Bool) : Type 0 where
 -- the limit in force: what the caller asks for, as far as 16-bit numbers and the lent scratch serve
 abbrev pub in_force : ℕ → ℕ → ℕ
 in_force limit scratch = min (min limit 32766) (scratch - 2)
-
--- document 01's number for each answer: 0 where the program is admitted
-abbrev pub checked_number : Checked → ℕ
-checked_number Admitted = 0
-checked_number (Refused r) = number r
 
 -- the first of document 01's conditions 1, 6 and 8 that holds of a table and its count under the limit n; or a good program stands there, and none holds
 pub data Checks (n : ℕ) (t : List ℕ) (count : ℕ) : ℕ → Type 0 where

@@ -30,10 +30,8 @@ fn forget_locations(part: &[u16], limit: usize, first: &mut [u16])
     ensures { (l : ℕ) → numbered 6 part.now l ≡ true → get_or first.new l 0 ≡ 0 }
 {
     let end = part.len() / 2;
-    let mut i: usize = 0;
-    while i < end {
+    for i in 0..end {
         let n = node_at(part, i);
-        i += 1;
         if n.kind == ALLOCATED {
             keep_first(first, Loc(n.number), 0);
         }
@@ -49,16 +47,15 @@ pub fn bodies_agree(part: &[u16], limit: usize, first: &mut [u16]) -> bool
 {
     forget_locations(part, limit, first);
     let end = part.len() / 2;
-    let mut i: usize = 0;
-    while i < end {
+    for i in 0..end {
         let n = node_at(part, i);
-        i += 1;
+        let body = i + 1;
         if n.kind == ALLOCATED {
             let l = Loc(n.number);
             let f = first_of(first, l);
             if f == 0 {
-                keep_first(first, l, i);
-            } else if !same_bodies(&part[2 * f..], &part[2 * i..]) {
+                keep_first(first, l, body);
+            } else if !same_bodies(&part[2 * f..], &part[2 * body..]) {
                 return false;
             }
         }

@@ -7,20 +7,3 @@ pub mod copy;
 pub mod kinds;
 pub mod nodes;
 pub mod walk;
-
-use calculus::Refusal;
-
-// What a walk over the nodes of a table finds.
-#[derive(Clone, Copy)]
-pub enum Walked {
-    NoProgram,
-    Loose,
-    Scoped,
-}
-
-// What a check of a table answers.
-#[derive(Clone, Copy)]
-pub enum Checked {
-    Admitted,
-    Refused(Refusal),
-}

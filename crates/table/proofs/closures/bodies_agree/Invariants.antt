@@ -1,10 +1,6 @@
 -- `bodies_agree` meets its contract. The invariant: the entries are right for the nodes passed.
-use Prim.Native.Nat.{◌≤◌, ◌-◌}
 use Rattle.table.proofs.Bodies.{Firsts}
 use Rattle.table.proofs.closures.bodies_agree.Given as goal
 
 abbrev pub invariant-loop-i : goal.invariant-loop-i
-invariant-loop-i l = (l.i ≤ l.end) × Firsts l.part l.end l.i l.initial.first l.first
-
-abbrev pub decreases-loop-i : goal.decreases-loop-i
-decreases-loop-i l = l.end - l.i
+invariant-loop-i l = Firsts l.part l.end l.i l.initial.first l.first

@@ -25,4 +25,4 @@ pub returns-then-bound : goal.returns-then-bound
 returns-then-bound c = rw c.if-bound.true at (ends_closed c.loop-at.invariant (omega arith) (omega (arith, ltb-false)) c.loop-at-test.false c.if-top-end-2.false)
 
 pub returns-else-bound : goal.returns-else-bound
-returns-else-bound c = rw c.if-bound.false at (ends_closed c.loop-at.invariant (omega arith) (omega (arith, ltb-false)) c.loop-at-test.false c.if-top-end-2.false)
+returns-else-bound c = rw c.fault.ensures (rw c.if-bound.false at (ends_closed c.loop-at.invariant (omega arith) (omega (arith, ltb-false)) c.loop-at-test.false c.if-top-end-2.false))

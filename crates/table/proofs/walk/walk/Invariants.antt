@@ -1,10 +1,7 @@
 -- `table::walk::walk` meets its contract: what is left of the walk gives what the whole walk over the numbers gives, and that is what stands there.
-use Prim.Native.Nat.{◌-◌}
+use Rattle.table.specs.Checks.{within}
 use Rattle.table.proofs.Scans.{Walking}
 use Rattle.table.proofs.walk.walk.Given as goal
 
 abbrev pub invariant-loop-at : goal.invariant-loop-at
-invariant-loop-at l = Walking l.t l.count l.limit l.within l.end l.pending l.top l.bound l.at
-
-abbrev pub decreases-loop-at : goal.decreases-loop-at
-decreases-loop-at l = l.count - l.at
+invariant-loop-at l = Walking l.t l.count l.limit (within l.scope) l.end l.pending l.top l.bound l.at
