@@ -16,9 +16,8 @@ use Rattle.calculus.specs.Calls.{Accepts, Refuses, TableOf, plain_refusals, tabl
 use Rattle.calculus.proofs.Answers.{number_injective, number_positive}
 use Rattle.calculus.proofs.Outcomes.{table_of_unique}
 use Rattle.table.specs.Checks.{Checks, checked_number}
-use Rattle.table.specs.declared.Checked.{Checked}
-use Rattle.table.specs.declared.Checked.TheVariants.{Admitted, Refused}
-use Rattle.table.proofs.Verdicts.{AdmittedIn, table_stands, refused_there}
+use Rattle.std.specs.Prelude.{Result, Ok, Err}
+use Rattle.table.proofs.Verdicts.{AdmittedIn, admitted_there, table_stands, refused_there}
 use Rattle.column.specs.Sizes.{TreeOf, ColumnVerdict}
 use Rattle.column.specs.Admissions.{ChecksWith, admitted, refused}
 
@@ -38,7 +37,7 @@ module _ {n : ℕ} {t : List ℕ} {count : ℕ} where
   pub admitted_some : AdmittedIn n t count → SomeProgram n t count
   admitted_some a = record { program_there = a.program_there; table_of = a.table_of }
 
-  pub refused_in : {r : Checked} {q : Refusal} → r ≡ Refused q → Checks n t count (checked_number r) → RefusedIn n t count q
+  pub refused_in : {r : Result Unit Refusal} {q : Refusal} → r ≡ Err q → Checks n t count (checked_number r) → RefusedIn n t count q
   refused_in {q = q} e h = let s = refused_there e h in record { refuses = rw (number_injective s.0 q s.1.0) at s.1.1 }
 
   -- with another number than 1
@@ -50,6 +49,11 @@ module _ {n : ℕ} {t : List ℕ} {count : ℕ} where
       go (inr (a, inl g)) = record { program_there = g.0.0; table_of = g.0.1.0 }
       go (inr (a, inr (b, inl g))) = record { program_there = g.0.0; table_of = g.0.1.0 }
       go (inr (a, inr (b, inr (c, g)))) = absurd g
+
+  -- a program stands there, but for 1
+  pub checked_some : (r : Result Unit Refusal) → (r ≡ Err refusal.NoProgram → ⊥) → Checks n t count (checked_number r) → SomeProgram n t count
+  checked_some (Ok u) f h = admitted_some (admitted_there refl h)
+  checked_some (Err q) f h = refused_some (refused_in refl h) (λ z. f (ap Err (number_injective q refusal.NoProgram z)))
 
   -- 1 stays
   pub first_stays : (c : List ℕ) {q : Refusal} → RefusedIn n t count q → number q ≡ 1 → ChecksWith n (sheet t c) count (number q)
@@ -84,8 +88,13 @@ module _ {n : ℕ} {t : List ℕ} {count : ℕ} where
         let k = v.right e _ (table_stands a.table_of) a.table_of.counts in
         admitted a.program_there a.table_of a.good k (column_accepts a.table_of k a.accepts)
 
-    pub right_refuses : {q : Refusal} → SomeProgram n t count → RefusedIn n t count q → b ≡ true → ChecksWith n (sheet t c) count (number q)
+    right_refuses : {q : Refusal} → SomeProgram n t count → RefusedIn n t count q → b ≡ true → ChecksWith n (sheet t c) count (number q)
     right_refuses {q} p h e = refused q (column_refuses p.table_of (v.right e _ (table_stands p.table_of) p.table_of.counts) q h.refuses)
+
+    -- whatever the table's check answers, but for 1
+    pub right_stays : (r : Result Unit Refusal) → (r ≡ Err refusal.NoProgram → ⊥) → Checks n t count (checked_number r) → b ≡ true → ChecksWith n (sheet t c) count (checked_number r)
+    right_stays (Ok u) f h e = right_admits (admitted_there refl h) e
+    right_stays (Err q) f h e = right_refuses (refused_some (refused_in refl h) (λ z. f (ap Err (number_injective q refusal.NoProgram z)))) (refused_in refl h) e
 
 -- an admitted program stands there with its column
 pub record HeldIn (n : ℕ) (table : Sheet) (count : ℕ) : Type 0 where
@@ -97,7 +106,7 @@ pub record HeldIn (n : ℕ) (table : Sheet) (count : ℕ) : Type 0 where
 
 module _ {n : ℕ} {table : Sheet} {count : ℕ} where
   -- the check admits
-  pub held_there : {r : Checked} → r ≡ Admitted → ChecksWith n table count (checked_number r) → HeldIn n table count
+  pub held_there : {r : Result Unit Refusal} {u : Unit} → r ≡ Ok u → ChecksWith n table count (checked_number r) → HeldIn n table count
   held_there {r} e h = go h (ap checked_number e)
     where
       go : {m : ℕ} → ChecksWith n table count m → m ≡ 0 → HeldIn n table count
@@ -105,7 +114,7 @@ module _ {n : ℕ} {table : Sheet} {count : ℕ} where
       go (refused q g) e = absurd (omega (arith, number_positive q))
 
   -- it refuses: the first condition that holds has the answer's number
-  pub refused_with : {r : Checked} {q : Refusal} → r ≡ Refused q → ChecksWith n table count (checked_number r) → Refuses (table_refusals n table count) q
+  pub refused_with : {r : Result Unit Refusal} {q : Refusal} → r ≡ Err q → ChecksWith n table count (checked_number r) → Refuses (table_refusals n table count) q
   refused_with {q} e h = go h (ap checked_number e)
     where
       go : {m : ℕ} → ChecksWith n table count m → m ≡ number q → Refuses (table_refusals n table count) q

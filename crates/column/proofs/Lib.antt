@@ -4,6 +4,5 @@ pub mod Checks
 pub mod Backwards
 pub mod Counts
 pub mod Spines
-pub mod Copies
 pub mod Besides
 pub mod Admissions

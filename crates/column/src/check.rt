@@ -5,32 +5,22 @@ ghost use Rattle.table.specs.Checks.{in_force, checked_number};
 ghost use Rattle.column.specs.Admissions.{ChecksWith};
 
 use crate::sizes::check_column;
-use calculus::{Refusal, refusal_number};
-use table::Checked;
+use calculus::Refusal;
 use table::check::check;
 
-// The check of a table with its column. The column's own is a pass behind the table's, and 14 goes before what that found, but for 1.
+/// The check of a table with its column. The column's own is a pass behind the table's, and 14 goes before what that found, but for 1.
 pub fn check_with(
     t: &[u16],
     column: &[u16],
     count: usize,
     limit: usize,
     scratch: &mut [u16],
-) -> Checked
+) -> Result<(), Refusal>
     ensures { ChecksWith (in_force limit (length scratch.old)) (sheet t.now column.now) count (checked_number result) }
 {
-    let Checked::Refused(r) = check(t, count, limit, scratch) else {
-        if check_column(t, column, count) {
-            return Checked::Admitted;
-        }
-        return Checked::Refused(Refusal::WrongColumn);
-    };
-    if refusal_number(r) == 1 {
-        return Checked::Refused(r);
+    let checked = check(t, count, limit, scratch);
+    if checked == Err(Refusal::NoProgram) || check_column(t, column, count) {
+        return checked;
     }
-    if check_column(t, column, count) {
-        Checked::Refused(r)
-    } else {
-        Checked::Refused(Refusal::WrongColumn)
-    }
+    Err(Refusal::WrongColumn)
 }

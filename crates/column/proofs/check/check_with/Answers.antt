@@ -1,26 +1,29 @@
 -- `column::check::check_with` meets its contract: the table's check first, the column's behind it, and 14 before 6 and 8.
-use mathlib.Core.Path.{sym, ◌∙◌}
-use Rattle.table.proofs.Verdicts.{admitted_there}
-use Rattle.column.proofs.Admissions.{tree_of, admitted_some, refused_in, refused_some, first_stays, not_right, right_admits, right_refuses}
+use mathlib.Core.Path.{◌≡◌, refl, sym, ap, ◌∙◌}
+use mathlib.Core.Bool.{true, true≢false}
+use Rattle.std.proofs.Common.{rules}
+use Rattle.std.specs.Prelude.{Result, Ok, Err}
+use Rattle.std.specs.Result.{result_eq}
+use Rattle.std.specs.contracts.prelude.UnitPartialEq.TheImpl as unit
+use Rattle.calculus.specs.contracts.RefusalPartialEq.TheImpl as refusals
+use Rattle.calculus.specs.declared.Refusal.{Refusal}
+use Rattle.calculus.specs.declared.Refusal.TheVariants.{NoProgram}
+use Rattle.calculus.specs.contracts.Refusal.{the_type}
+use denote.Enum.Bare.{same_true}
+use Rattle.column.proofs.Admissions.{tree_of, checked_some, refused_in, first_stays, not_right, right_stays}
 use Rattle.column.proofs.check.check_with.Goals as goal
+use Rattle.column.proofs.check.check_with.Goals.{then-eq-via-then-eq, then-eq-via-else-eq+then-check_column}
+
+-- the answers that are equal to 1
+first : (r : Result Unit Refusal) → result_eq unit.eq-value.it refusals.eq-value.it r (Err NoProgram) ≡ true → r ≡ Err NoProgram
+first (Ok u) e = absurd (true≢false (sym e))
+first (Err q) e = ap Err (same_true the_type (search rules) q NoProgram e)
 
 pub check_column-requires : goal.check_column-requires
-check_column-requires c = tree_of (admitted_some (admitted_there c.in_default.is c.check.ensures))
+check_column-requires c = tree_of (checked_some c.check-checked.result (λ e. true≢false (sym (rw e at c.eq.ensures) ∙ c.if-eq.false)) c.check-checked.ensures)
 
-pub returns-then-check_column : goal.returns-then-check_column
-returns-then-check_column c = right_admits c.check_column.ensures (admitted_there c.in_default.is c.check.ensures) c.if-check_column.true
+pub returns : goal.returns
+returns c = not_right c.check_column.ensures (checked_some c.check-checked.result (λ e. true≢false (sym (rw e at c.eq.ensures) ∙ c.if-eq.false)) c.check-checked.ensures) c.if-check_column.false
 
-pub returns-in_default : goal.returns-in_default
-returns-in_default c = not_right c.check_column.ensures (admitted_some (admitted_there c.in_default.is c.check.ensures)) c.if-check_column.false
-
-pub returns-then-refusal_number-eq1 : goal.returns-then-refusal_number-eq1
-returns-then-refusal_number-eq1 c = first_stays _ (refused_in c.in-Refused.is c.check.ensures) (sym c.refusal_number.ensures ∙ c.if-refusal_number-eq1.true)
-
-pub check_column-requires-2 : goal.check_column-requires-2
-check_column-requires-2 c = tree_of (refused_some (refused_in c.in-Refused.is c.check.ensures) (λ e. c.if-refusal_number-eq1.false (c.refusal_number.ensures ∙ e)))
-
-pub returns-then-check_column-2 : goal.returns-then-check_column-2
-returns-then-check_column-2 c = right_refuses c.check_column-2.ensures (refused_some (refused_in c.in-Refused.is c.check.ensures) (λ e. c.if-refusal_number-eq1.false (c.refusal_number.ensures ∙ e))) (refused_in c.in-Refused.is c.check.ensures) c.if-check_column-2.true
-
-pub returns-else-check_column-2 : goal.returns-else-check_column-2
-returns-else-check_column-2 c = not_right c.check_column-2.ensures (refused_some (refused_in c.in-Refused.is c.check.ensures) (λ e. c.if-refusal_number-eq1.false (c.refusal_number.ensures ∙ e))) c.if-check_column-2.false
+pub returns-then-eq : goal.returns-then-eq
+returns-then-eq c = elim c.then-eq.branch [ then-eq-via-then-eq w ↦ let e = first c.check-checked.result (sym c.eq.ensures ∙ w.if-eq.true) in rw e (first_stays _ (refused_in e c.check-checked.ensures) refl) | then-eq-via-else-eq+then-check_column w ↦ right_stays w.check_column.ensures c.check-checked.result (λ e. true≢false (sym (rw e at c.eq.ensures) ∙ w.if-eq.false)) c.check-checked.ensures w.if-check_column.true ]
