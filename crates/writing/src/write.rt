@@ -42,7 +42,7 @@ fn node_bytes(kind: u16, number: u16) -> usize
     }
 }
 
-// The length of the text of the program at the front of a table.
+/// The length of the text of the program at the front of a table.
 pub fn text_length(t: &[u16], count: usize) -> usize
     requires counted_program { CountedProgram t.now count }
     requires count_bound { count < 65536 }
@@ -56,7 +56,7 @@ pub fn text_length(t: &[u16], count: usize) -> usize
     total
 }
 
-// Where writing has come to: the next node, the next byte of the output, and the cells on the stack.
+/// Where writing has come to: the next node, the next byte of the output, and the cells on the stack.
 #[derive(Clone, Copy)]
 pub struct Progress {
     pub node: usize,
@@ -64,7 +64,7 @@ pub struct Progress {
     pub cells: usize,
 }
 
-// One byte.
+/// One byte.
 pub fn put(out: &mut [u8], to: usize, b: u8) -> usize
     requires { BytesFit out.old to (b ∷ []) }
     ensures { Wrote out.old out.new to result (b ∷ []) }
@@ -84,7 +84,7 @@ fn put_tag(out: &mut [u8], to: usize, tag: u8) -> usize
     put(out, c, tag)
 }
 
-// A number as an N: its length of one digit, a colon, its digits from the last to the first.
+/// A number as an N: its length of one digit, a colon, its digits from the last to the first.
 pub fn put_number(out: &mut [u8], to: usize, n: u16) -> usize
     requires { BytesFit out.old to (numeral n) }
     ensures { Wrote out.old out.new to result (numeral n) }
@@ -131,21 +131,21 @@ fn put_head(out: &mut [u8], to: usize, kind: u16, number: u16) -> usize
     }
 }
 
-// A piece of the text that is still to be written.
+/// A piece of the text that is still to be written.
 #[derive(Clone, Copy)]
 enum Piece {
-    // the term at the next node
+    /// The term at the next node.
     Term,
-    // the rest of a program, from the next node on, with its closing bracket
+    /// The rest of a program, from the next node on, with its closing bracket.
     Rest,
-    // a closing bracket
+    /// A closing bracket.
     Close,
 }
 
 impl Piece {
     ghost use Rattle.writing.specs.Cells.{Stands};
 
-    // The piece that a cell of the stack stands for.
+    /// The piece that a cell of the stack stands for.
     fn of(cell: u16) -> Piece
         ensures { Stands cell result }
     {
@@ -240,7 +240,7 @@ fn put_piece(
     }
 }
 
-// The text of the program at the front of a table, at the front of the output. The stack is lent: what it holds afterwards says nothing.
+/// The text of the program at the front of a table, at the front of the output. The stack is lent: what it holds afterwards says nothing.
 pub fn put_text(t: &[u16], out: &mut [u8], stack: &mut [u16])
     requires room_for_text { RoomForText t.now out.old }
     requires cells_for_text { CellsForText t.now stack.old }
