@@ -7,13 +7,14 @@ use native.Mathlib.Numerals.{add-one}
 use native.Mathlib.Omega.{arith}
 use lib.ListN.{length, take, drop, get_or, replicate, length-append, length-drop, length-replicate, take-append-drop, drop_of_length-le}
 use lib.Seq.{drop-cons, length-take-le, take_at, append_snoc, drop-drop}
+use Rattle.std.specs.Prelude.{Ok, Err}
 use Rattle.calculus.specs.Sexp.{decimal, atom, bytes}
 use Rattle.calculus.proofs.Decimals.{Digits, PlainDecimal, decimal_plain, decimal_small, decimal_colon, decimal_first, decimal_more}
 use Rattle.csexp.specs.Items.{ItemBytes, opening, closing, of_atom, Begins, item_bytes, Placed, Takes, took, cut, bad}
 use Rattle.csexp.specs.Lengths.{LengthKept, exact, beyond}
 use Rattle.csexp.specs.declared.Item.{Item}
 use Rattle.csexp.specs.declared.Item.TheVariants.{Atom}
-use Rattle.csexp.specs.declared.Taken.TheVariants.{Next, Cut, Bad}
+use Rattle.csexp.specs.declared.Torn.TheVariants.{Cut, Bad}
 
 -- a decimal, a colon and enough bytes begin an atom
 atom_here : (m : ℕ) (q : List ℕ) → m ≤ length q → Begins (decimal m ++ (58 ∷ q))
@@ -103,7 +104,7 @@ none_begins x r n b = go b.item b.is_item b.here
     go _ (of_atom c) e = at_digit (decimal (length c)) (58 ∷ c ++ b.rest) (decimal_plain (length c)) (simp append_assoc at e)
 
 -- a bad byte: what stands before it can go on as an item, with it nothing can
-bad_at : (s d q more : List ℕ) (at p x : ℕ) → drop at s ≡ d ++ (x ∷ q) → p ≡ at + length d → ((r : List ℕ) → Begins (d ++ (x ∷ r)) → ⊥) → Begins (d ++ more) → Takes s at (Bad p)
+bad_at : (s d q more : List ℕ) (at p x : ℕ) → drop at s ≡ d ++ (x ∷ q) → p ≡ at + length d → ((r : List ℕ) → Begins (d ++ (x ∷ r)) → ⊥) → Begins (d ++ more) → Takes s at (Err (Bad p))
 bad_at s d q more at p x e h f b =
     let long : length s - at ≡ length d + suc (length q) = sym (length-drop at s) ∙ ap length e ∙ length-append d (x ∷ q) in
     let front : take (p - at) (drop at s) ≡ d = rw e (take_at d (x ∷ q) (p - at) (omega arith)) in
@@ -111,15 +112,15 @@ bad_at s d q more at p x e h f b =
     bad p (omega arith) (omega arith) (λ r a. f r (rw (all, append_snoc) at a)) more (rw front b)
 
 -- past the end any item may follow
-pub cut_end : (s : List ℕ) (at : ℕ) → length s ≤ at → Takes s at Cut
+pub cut_end : (s : List ℕ) (at : ℕ) → length s ≤ at → Takes s at (Err Cut)
 cut_end s at h = cut (λ b. nothing_begins (rw (drop_of_length-le s h) at b)) (40 ∷ []) (rw (drop_of_length-le s h) bracket_begins)
 
 -- an item of one byte, a bracket, is there where its byte is
-pub took_byte : (s : List ℕ) (at : ℕ) (i : Item) (k : ℕ) → item_bytes s i ≡ k ∷ [] → Placed s at i (at + 1) → at < length s → get_or s at 0 ≡ k → Takes s at (Next i (record { at = at + 1 }))
+pub took_byte : (s : List ℕ) (at : ℕ) (i : Item) (k : ℕ) → item_bytes s i ≡ k ∷ [] → Placed s at i (at + 1) → at < length s → get_or s at 0 ≡ k → Takes s at (Ok (i, record { at = at + 1 }))
 took_byte s at i k b p h e = took i (at + 1) (omega arith) (rw (b, drop-cons s at 0 h, e, add-one)) p
 
 -- another byte that is no digit is bad
-pub bad_first : (s : List ℕ) (at : ℕ) → at < length s → BeginsNone (get_or s at 0) → Takes s at (Bad at)
+pub bad_first : (s : List ℕ) (at : ℕ) → at < length s → BeginsNone (get_or s at 0) → Takes s at (Err (Bad at))
 bad_first s at h n = bad_at s [] (drop (suc at) s) (40 ∷ []) at at (get_or s at 0) (drop-cons s at 0 h) (omega arith) (λ r. none_begins (get_or s at 0) r n) bracket_begins
 
 -- the digits from a place on are a decimal, whose number is kept; one that begins with 0 has no second digit
@@ -152,13 +153,13 @@ read_more {s} {at} {first} {n} {i} {r} a f h low high k =
     record { m = 10 * a.m + (get_or s i 0 - 48); digits = a.digits ∙ rw (e, drop-cons s i 0 h, append_snoc, add-one); place = rw e (simp length-append (omega arith)); within = omega arith; kept = kept_more (get_or s i 0 - 48) a.kept k; alone = λ z. absurd (f z); long = λ z. omega (arith, a.long f) }
 
 -- the text ends in the digits
-pub cut_digits : {s : List ℕ} {at first n i : ℕ} → Read s at first n i → i ≡ length s → Takes s at Cut
+pub cut_digits : {s : List ℕ} {at first n i : ℕ} → Read s at first n i → i ≡ length s → Takes s at (Err Cut)
 cut_digits {s} {at} {i = i} a h =
     let e : drop at s ≡ decimal a.m = a.digits ∙ rw (drop_of_length-le s {i = i} (omega arith)) (append-nil (decimal a.m)) in
     cut (λ b. no_atom_yet a.m (rw e at b)) (58 ∷ replicate a.m 0) (rw e (atom_here a.m (replicate a.m 0) (simp length-replicate (omega arith))))
 
 -- a byte behind the digits that is no digit, or that follows a leading 0, has to be the colon
-pub bad_digits : {s : List ℕ} {at first n i : ℕ} → Read s at first n i → i < length s → (get_or s i 0 ≡ 58 → ⊥) → (first ≡ 48) ⊎ (48 ≤ get_or s i 0 → get_or s i 0 < 58 → ⊥) → Takes s at (Bad i)
+pub bad_digits : {s : List ℕ} {at first n i : ℕ} → Read s at first n i → i < length s → (get_or s i 0 ≡ 58 → ⊥) → (first ≡ 48) ⊎ (48 ≤ get_or s i 0 → get_or s i 0 < 58 → ⊥) → Takes s at (Err (Bad i))
 bad_digits {s} {at} {first} {n} {i} a h f g =
     bad_at s (decimal a.m) (drop (suc i) s) (58 ∷ replicate a.m 0) at i (get_or s i 0) (a.digits ∙ rw (drop-cons s i 0 h)) a.place (λ r. no_atom a.m (get_or s i 0) r (record { no_colon = f; no_digit = ⊎_elim (λ z. inl (a.alone z)) inr g })) (atom_here a.m (replicate a.m 0) (simp length-replicate (omega arith)))
 
@@ -167,7 +168,7 @@ colon : {s : List ℕ} {at first n i : ℕ} (a : Read s at first n i) → i < le
 colon {s} {i = i} a h e = a.digits ∙ rw (drop-cons s i 0 h, e, add-one)
 
 -- the text ends in the atom's bytes
-pub cut_bytes : {s : List ℕ} {at first n i : ℕ} → Read s at first n i → i < length s → get_or s i 0 ≡ 58 → length s - (i + 1) < n → Takes s at Cut
+pub cut_bytes : {s : List ℕ} {at first n i : ℕ} → Read s at first n i → i < length s → get_or s i 0 ≡ 58 → length s - (i + 1) < n → Takes s at (Err Cut)
 cut_bytes {s} {at} {first} {n} {i} a h e l = cut none (replicate m 0) (rw (colon a h e, append_assoc) (atom_here m (q ++ replicate m 0) (simp (length-append, length-replicate) (omega arith))))
   where
     m : ℕ
@@ -187,7 +188,7 @@ cut_bytes {s} {at} {first} {n} {i} a h e l = cut none (replicate m 0) (rw (colon
         omega (arith, same.0, ap length same.1, long a.kept)
 
 -- the atom is there
-pub took_atom : {s : List ℕ} {at first n i : ℕ} → Read s at first n i → i < length s → get_or s i 0 ≡ 58 → n ≤ length s - (i + 1) → Takes s at (Next (Atom (i + 1) n) (record { at = i + 1 + n }))
+pub took_atom : {s : List ℕ} {at first n i : ℕ} → Read s at first n i → i < length s → get_or s i 0 ≡ 58 → n ≤ length s - (i + 1) → Takes s at (Ok (Atom (i + 1) n, record { at = i + 1 + n }))
 unfolding bytes
 took_atom {s} {at} {first} {n} {i} a h e l = took (Atom (i + 1) n) (i + 1 + n) (omega arith) (colon a h e ∙ sym there) (rw same (omega arith), refl)
   where

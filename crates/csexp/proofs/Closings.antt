@@ -11,6 +11,7 @@ use lib.Dec.{eqb}
 use lib.ListN.{length, take, drop, length-drop, take-append-drop, drop_of_length-le}
 use lib.Seq.{append_snoc}
 use borrow.Author.Tests.{eqb-true, eqb-false}
+use Rattle.std.specs.Prelude.{Result, Ok, Err}
 use Rattle.calculus.specs.Sexp.{Sexp, one, many, atom, list, nothing, more, bytes}
 use Rattle.calculus.proofs.Decimals.{decimal_first}
 use Rattle.calculus.proofs.Bytes.{bytes_prefix, first_byte}
@@ -18,8 +19,7 @@ use Rattle.csexp.specs.Items.{ItemBytes, opening, closing, of_atom, Begins, item
 use Rattle.csexp.specs.declared.Cursor.{Cursor}
 use Rattle.csexp.specs.declared.Item.{Item}
 use Rattle.csexp.specs.declared.Item.TheVariants.{Open, Close, Atom}
-use Rattle.csexp.specs.declared.Taken.{Taken}
-use Rattle.csexp.specs.declared.Taken.TheVariants.{Next}
+use Rattle.csexp.specs.declared.Torn.{Torn}
 
 -- the list closes so many brackets, and ends with the last
 abbrev pub Closes : ℕ → List ℕ → Type 0
@@ -110,35 +110,31 @@ pub record Took (s : List ℕ) (at : ℕ) (i : Item) (next : ℕ) : Type 0 where
   pub placed : Placed s at i next
 
 -- an answer that has an item says where it stands
-pub item_taken : {s : List ℕ} {at : ℕ} {t : Taken} → Takes s at t → (i : Item) (c : Cursor) → t ≡ Next i c → Took s at i c.at
+pub item_taken : {s : List ℕ} {at : ℕ} {t : Result (Item × Cursor) Torn} → Takes s at t → (i : Item) (c : Cursor) → t ≡ Ok (i, c) → Took s at i c.at
 item_taken {s} {at} (took j next w h p) i c e =
-    let same : j ≡ i = cc in
-    let there : ◌≡◌ {A = Cursor} (record { at = next }) c = cc in
-    let place : next ≡ c.at = ap (λ (k : Cursor). k.at) there in
+    let pair : ◌≡◌ {A = Item × Cursor} (j, record { at = next }) (i, c) = cc in
+    let same : j ≡ i = ap (λ (p : Item × Cursor). p.0) pair in
+    let place : next ≡ c.at = ap (λ (p : Item × Cursor). p.1.at) pair in
     rw (← same, ← place) (record { within = w; here = h; placed = p })
 item_taken (cut f q b) i c e = absurd (let z : ◌≡◌ {A = ℕ} 0 1 = cc in omega arith)
 item_taken (bad p a l f q b) i c e = absurd (let z : ◌≡◌ {A = ℕ} 0 1 = cc in omega arith)
 
 -- none was taken: none is there
-pub none_taken : {s : List ℕ} {at : ℕ} {t : Taken} → Takes s at t → ((i : Item) (c : Cursor) → t ≡ Next i c → ⊥) → Begins (drop at s) → ⊥
-none_taken (took i next w h p) f b = f i (record { at = next }) refl
-none_taken (cut n q g) f b = n b
-none_taken {s} {at} (bad p a l n q g) f b = n (drop (suc p - at) (drop at s)) (rw take-append-drop b)
+pub none_taken : {s : List ℕ} {at : ℕ} {e : Torn} → Takes s at (Err e) → Begins (drop at s) → ⊥
+none_taken (cut n q g) b = n b
+none_taken {s} {at} (bad p a l n q g) b = n (drop (suc p - at) (drop at s)) (rw take-append-drop b)
 
-item_bytes_lem : (s : List ℕ) (i : Item) → ItemBytes (item_bytes s i)
+-- an item's bytes are some
+pub item_bytes_lem : (s : List ℕ) (i : Item) → ItemBytes (item_bytes s i)
 item_bytes_lem s Open = opening
 item_bytes_lem s Close = closing
 item_bytes_lem s (Atom place n) = of_atom (take n (drop place s))
 
 -- what is taken has its number
-takes_number : {s : List ℕ} {at : ℕ} (t : Taken) → Takes s at t → TakesNumber s at (taken_number t)
+pub takes_number : {s : List ℕ} {at : ℕ} (t : Result (Item × Cursor) Torn) → Takes s at t → TakesNumber s at (taken_number t)
 takes_number {s} t (took i next w h p) = some_item (record { item = item_bytes s i; rest = drop next s; is_item = item_bytes_lem s i; here = h })
 takes_number t (cut f q b) = no_item f
 takes_number {s} {at} t (bad p a l f q b) = no_item (λ g. f (drop (suc p - at) (drop at s)) (rw take-append-drop g))
-
--- the answer, with its number
-pub numbered : {s : List ℕ} {at : ℕ} {t : Taken} → Takes s at t → Takes s at t × TakesNumber s at (taken_number t)
-numbered {t = t} h = (h, takes_number t h)
 
 -- what can't follow at the beginning is no expression
 not_one : {s : List ℕ} → (Expects 0 s → ⊥) → OneExpression s false

@@ -1,12 +1,13 @@
 -- What a cursor over a text takes, and when a text is one expression, said over the canonical bytes.
-use Rattle.std.specs.Prelude.{◌≡◌, Bool, true, false, List, [], ◌∷◌, ◌++◌, ℕ, suc, ◌+◌, ◌-◌, ◌≤◌, ◌<◌, length, take, drop}
+use Rattle.std.specs.Prelude.{◌≡◌, Bool, true, false, List, [], ◌∷◌, ◌++◌, ℕ, suc, ◌+◌, ◌-◌, ◌≤◌, ◌<◌, length, take, drop, Result, Ok, Err}
 use Rattle.calculus.specs.declared.Refusal.TheVariants.{NotCanonical}
 use Rattle.calculus.specs.Sexp.{decimal, one, Sexp, atom, bytes}
 use Rattle.calculus.specs.Answers.{number}
+use Rattle.csexp.specs.declared.Cursor.{Cursor}
 use Rattle.csexp.specs.declared.Item.{Item}
 use Rattle.csexp.specs.declared.Item.TheVariants.{Open, Close, Atom}
-use Rattle.csexp.specs.declared.Taken.{Taken}
-use Rattle.csexp.specs.declared.Taken.TheVariants.{Next, Cut, Bad}
+use Rattle.csexp.specs.declared.Torn.{Torn}
+use Rattle.csexp.specs.declared.Torn.TheVariants.{Cut, Bad}
 
 -- the bytes of one item
 pub data ItemBytes : List ℕ → Type 0 where
@@ -35,16 +36,16 @@ Placed s at (Atom place n) next = (place ≡ at + length (decimal n) + 1) × (ne
 
 -- what a cursor takes at a place: an item, and the place behind it; the text ends there, and could go on so that an item stands there;
 -- or up to the byte at p no text that goes on has an item there, and up to the byte before it one has
-pub data Takes (s : List ℕ) (at : ℕ) : Taken → Type 0 where
-  took : (i : Item) (next : ℕ) → next ≤ length s → drop at s ≡ item_bytes s i ++ drop next s → Placed s at i next → Takes s at (Next i (record { at = next }))
-  cut : (Begins (drop at s) → ⊥) → (more : List ℕ) → Begins (drop at s ++ more) → Takes s at Cut
-  bad : (p : ℕ) → at ≤ p → p < length s → ((more : List ℕ) → Begins (take (suc p - at) (drop at s) ++ more) → ⊥) → (more : List ℕ) → Begins (take (p - at) (drop at s) ++ more) → Takes s at (Bad p)
+pub data Takes (s : List ℕ) (at : ℕ) : Result (Item × Cursor) Torn → Type 0 where
+  took : (i : Item) (next : ℕ) → next ≤ length s → drop at s ≡ item_bytes s i ++ drop next s → Placed s at i next → Takes s at (Ok (i, record { at = next }))
+  cut : (Begins (drop at s) → ⊥) → (more : List ℕ) → Begins (drop at s ++ more) → Takes s at (Err Cut)
+  bad : (p : ℕ) → at ≤ p → p < length s → ((more : List ℕ) → Begins (take (suc p - at) (drop at s) ++ more) → ⊥) → (more : List ℕ) → Begins (take (p - at) (drop at s) ++ more) → Takes s at (Err (Bad p))
 
 -- document 01's number for each answer: a cut or a bad byte is no canonical item, 0 where one is taken
-abbrev pub taken_number : Taken → ℕ
-taken_number (Next i c) = 0
-taken_number Cut = number NotCanonical
-taken_number (Bad p) = number NotCanonical
+abbrev pub taken_number : Result (Item × Cursor) Torn → ℕ
+taken_number (Ok x) = 0
+taken_number (Err Cut) = number NotCanonical
+taken_number (Err (Bad p)) = number NotCanonical
 
 -- 3 is told exactly where no item begins
 pub data TakesNumber (s : List ℕ) (at : ℕ) : ℕ → Type 0 where

@@ -3,26 +3,25 @@
 
 ghost use Rattle.std.specs.Prelude.{◌≡◌, ◌+◌, ◌-◌, ◌*◌, ◌^◌, ◌<◌, ◌≤◌, length, get_or};
 ghost use Rattle.csexp.specs.Items.{Takes, TakesNumber, taken_number, OneExpression};
-ghost use Rattle.csexp.specs.Lengths.{Digit, LengthKept};
+ghost use Rattle.csexp.specs.Lengths.{LengthKept};
 
-// The reading place. A reader that has taken one item hands its place on to the next.
+/// The reading place. A reader that has taken one item hands its place on to the next.
 #[derive(Clone, Copy)]
 pub struct Cursor {
     pub at: usize,
 }
 
-// A bracket, or an atom: where its bytes begin, and how many there are.
-#[derive(Clone, Copy)]
+/// A bracket, or an atom: where its bytes begin, and how many there are.
+#[derive(Clone, Copy, PartialEq, Eq)]
 pub enum Item {
     Open,
     Close,
     Atom(usize, usize),
 }
 
-// What a cursor finds: an item and the next cursor; the text ends within an item; or a byte at a place can't begin or continue one.
+/// Why no item is taken: the text ends within it, or the byte at a place can't begin or continue one.
 #[derive(Clone, Copy)]
-pub enum Taken {
-    Next(Item, Cursor),
+pub enum Torn {
     Cut,
     Bad(usize),
 }
@@ -39,14 +38,8 @@ fn longer(n: usize, digit: u8, most: usize) -> usize
     }
 }
 
-fn is_digit(b: u8) -> bool
-    ensures { Digit b result }
-{
-    b'0' <= b && b <= b'9'
-}
-
 // The atom whose length begins at a digit.
-fn atom_at(s: &[u8], at: usize) -> Taken
+fn atom_at(s: &[u8], at: usize) -> Result<(Item, Cursor), Torn>
     requires { (at < length s.now) × (48 ≤ get_or s.now at 0) × (get_or s.now at 0 < 58) }
     ensures { Takes s.now at result }
 {
@@ -54,22 +47,22 @@ fn atom_at(s: &[u8], at: usize) -> Taken
     let first = s[at];
     let mut n = (first - b'0') as usize;
     let mut i = at + 1;
-    // a length that begins with 0 has no second digit
-    while first != b'0' && i < most && is_digit(s[i]) {
+    // A length that begins with 0 has no second digit. A `while`, since the place where the digits end is needed behind the loop.
+    while first != b'0' && i < most && s[i].is_ascii_digit() {
         n = longer(n, s[i], most);
         i += 1;
     }
     if i == most {
-        return Taken::Cut;
+        return Err(Torn::Cut);
     }
     if s[i] != b':' {
-        return Taken::Bad(i);
+        return Err(Torn::Bad(i));
     }
     let place = i + 1;
     if most - place < n {
-        return Taken::Cut;
+        return Err(Torn::Cut);
     }
-    Taken::Next(Item::Atom(place, n), Cursor { at: place + n })
+    Ok((Item::Atom(place, n), Cursor { at: place + n }))
 }
 
 impl Cursor {
@@ -79,54 +72,41 @@ impl Cursor {
         Cursor { at: 0 }
     }
 
-    // The item at the cursor.
-    pub fn take(self, s: &[u8]) -> Taken
+    /// The item at the cursor, and the cursor behind it.
+    pub fn take(self, s: &[u8]) -> Result<(Item, Cursor), Torn>
         ensures takes { Takes s.now self.at result }
         ensures takes_number { TakesNumber s.now self.at (taken_number result) }
     {
         let at = self.at;
         if s.len() <= at {
-            return Taken::Cut;
+            return Err(Torn::Cut);
         }
-        let b = s[at];
-        if b == b'(' {
-            return Taken::Next(Item::Open, Cursor { at: at + 1 });
-        }
-        if b == b')' {
-            return Taken::Next(Item::Close, Cursor { at: at + 1 });
-        }
-        if is_digit(b) {
-            atom_at(s, at)
-        } else {
-            Taken::Bad(at)
+        match s[at] {
+            b'(' => Ok((Item::Open, Cursor { at: at + 1 })),
+            b')' => Ok((Item::Close, Cursor { at: at + 1 })),
+            b'0'..=b'9' => atom_at(s, at),
+            _ => Err(Torn::Bad(at)),
         }
     }
 }
 
-// Is the whole text exactly one expression? `depth` brackets are open.
+/// Is the whole text exactly one expression? `depth` brackets are open.
 pub fn is_one(s: &[u8]) -> bool
     ensures { OneExpression s.now result }
 {
     let mut c = Cursor::start();
     let mut depth: usize = 0;
-    loop {
-        let Taken::Next(item, next) = c.take(s) else {
-            return false;
-        };
+    while let Ok((item, next)) = c.take(s) {
         match item {
             Item::Open => depth += 1,
-            Item::Close => {
-                if depth == 0 {
-                    return false;
-                }
-                depth -= 1;
-            }
-            Item::Atom(_, _) => {}
+            Item::Close if depth == 0 => return false,
+            Item::Close => depth -= 1,
+            Item::Atom(..) => {}
         }
-        let at = next.at;
         if depth == 0 {
-            return at == s.len();
+            return next.at == s.len();
         }
         c = next;
     }
+    false
 }

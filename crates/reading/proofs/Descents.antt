@@ -1,5 +1,5 @@
 -- The items that the grammar asks for, what a descent keeps of the nodes that it passes, where it leads, and what that says of the whole text.
-use mathlib.Core.Path.{◌≡◌, refl, sym, ap, ◌∙◌}
+use mathlib.Core.Path.{◌≡◌, refl, sym, ap, subst, ◌∙◌}
 use mathlib.Core.Bool.{Bool, true, false, ◌&&◌, or-false, or-true}
 use mathlib.Core.List.{List, [], ◌∷◌, ◌++◌, append_assoc, append-nil, head-eq_of_cons-eq, tail-eq_of_cons-eq}
 use Prim.Native.Nat.{ℕ, ◌+◌, ◌-◌, ◌*◌, ◌/◌, ◌≤◌, ◌<◌}
@@ -8,6 +8,7 @@ use lib.Dec.{eqb, leb}
 use borrow.Author.Tests.{eqb-true, le-leb, lt-leb}
 use lib.ListN.{length, get_or, take, drop, length-append, length-drop}
 use lib.Seq.{append_snoc, drop-cons, drop-length, sets, sets-eq, length-sets, length-take-le, take_at}
+use Rattle.std.specs.Prelude.{Option, Some, None}
 use Rattle.calculus.specs.declared.Refusal.TheVariants.{OutOfPlace, BadNumber, NoBinder}
 use Rattle.calculus.specs.Sexp.{atom, list, nothing, bytes}
 use Rattle.calculus.specs.Tree.{program, Tree, nodes}
@@ -20,19 +21,13 @@ use Rattle.calculus.proofs.Preorders.{preorder_length}
 use Rattle.csexp.specs.declared.Cursor.{Cursor}
 use Rattle.csexp.specs.declared.Item.{Item}
 use Rattle.csexp.specs.declared.Item.TheVariants.{Open, Close, Atom}
-use Rattle.csexp.specs.Items.{ItemBytes, Begins}
+use Rattle.csexp.specs.Items.{ItemBytes, Begins, item_bytes}
 use Rattle.csexp.proofs.Closings.{no_bracket, Took}
 use Rattle.reading.specs.Numbers.{NumberIs}
-use Rattle.reading.specs.declared.items.Found.{Found}
-use Rattle.reading.specs.declared.items.Found.TheVariants.{No as NoFound, Behind}
 use Rattle.reading.specs.declared.goals.Waiting.{Waiting}
 use Rattle.reading.specs.declared.parse.Met.{Met}
-use Rattle.reading.specs.declared.parse.Descent.{Descent}
-use Rattle.reading.specs.declared.parse.Descent.TheVariants.{Out, To}
-use Rattle.reading.specs.declared.parse.Turn.{Turn}
-use Rattle.reading.specs.declared.parse.Turn.TheVariants.{Out as OutTurn, To as ToTurn}
 use Rattle.reading.specs.Reading.{none_found, Parses, out, bad, loose, of_nodes}
-use Rattle.reading.specs.Descent.{Between, AtomBetween, Note, no_node, node_note, followed, number_note, note, Keeps, Noted, ToRead, kind, number, bracket, one_term, members, Fill, spelled, noted, Fills, spelled_all, noted_all, Passes, Leads, ReadsOn, Beyond, Ahead, Descends, Row, tag, node_of, Heads, row, no_row, ends, waiting, cells_of, Pushes, Announces, GoalsStacked, BeforeGoal, BeforeTerm, Tops, Follows, Advances, FoundAt, passed as passed_bracket}
+use Rattle.reading.specs.Descent.{Between, AtomBetween, Note, no_node, node_note, followed, number_note, note, Keeps, Noted, ToRead, kind, number, bracket, one_term, members, Fill, spelled, noted, Fills, spelled_all, noted_all, Passes, Leads, ReadsOn, Beyond, Ahead, Descends, Row, tag, node_of, Heads, row, no_row, ends, waiting, cells_of, Pushes, Announces, GoalsStacked, BeforeGoal, BeforeTerm, Tops, Follows, Advances, FoundAt, Descent, Turn}
 use Rattle.reading.proofs.Decimals.{not_plain}
 use Rattle.reading.proofs.Grammar.{parts, tag_injective, followed_assoc, followed_none, followed_end, term_of, term_spelled, term_noted, made, tagged, program_of, program_spelled, program_noted, member, note_read, note_unread, Told, told, treed}
 use Rattle.reading.proofs.Stacks.{next_goal, next_end, tag_long, announced_parts}
@@ -56,21 +51,18 @@ module _ {s : List ℕ} {at next : ℕ} where
       go Close t f = no_bracket b r (drop next s) 41 (omega arith) (sym e ∙ t.here)
       go (Atom p m) t f = f p m refl
 
-  -- a bracket is there
-  pub open_there : Took s at Open next → Between s at next (40 ∷ [])
-  open_there t = record { forward = omega (arith, t.placed); within = t.within; here = t.here }
-
-  pub close_there : Took s at Close next → Between s at next (41 ∷ [])
-  close_there t = record { forward = omega (arith, t.placed); within = t.within; here = t.here }
-
-  -- another item is there, so not the bracket k
-  pub not_bracket : {i : Item} (k : ℕ) → k < 48 → Took s at i next → (i ≡ Open → k ≡ 40 → ⊥) → (i ≡ Close → k ≡ 41 → ⊥) → (r : List ℕ) → drop at s ≡ k ∷ r → ⊥
-  not_bracket {i} k l t f g r e = go i t f g
+  -- another item is there, so not the bracket j
+  pub not_bracket : {i j : Item} (k : ℕ) → k < 48 → item_bytes s j ≡ k ∷ [] → Took s at i next → (i ≡ j → ⊥) → (r : List ℕ) → drop at s ≡ k ∷ r → ⊥
+  not_bracket {i} {j} k l b t f r e = go i j b t f
     where
-      go : (i : Item) → Took s at i next → (i ≡ Open → k ≡ 40 → ⊥) → (i ≡ Close → k ≡ 41 → ⊥) → ⊥
-      go Open t f g = f refl (head-eq_of_cons-eq (sym e ∙ t.here))
-      go Close t f g = g refl (head-eq_of_cons-eq (sym e ∙ t.here))
-      go (Atom p m) t f g = no_bracket (take m (drop p s)) (drop next s) r k l (sym t.here ∙ e)
+      go : (i j : Item) → item_bytes s j ≡ k ∷ [] → Took s at i next → (i ≡ j → ⊥) → ⊥
+      go (Atom p m) j b t f = no_bracket (take m (drop p s)) (drop next s) r k l (sym t.here ∙ e)
+      go Open Open b t f = f refl
+      go Open Close b t f = omega (arith, head-eq_of_cons-eq b, head-eq_of_cons-eq (sym e ∙ t.here))
+      go Close Open b t f = omega (arith, head-eq_of_cons-eq b, head-eq_of_cons-eq (sym e ∙ t.here))
+      go Close Close b t f = f refl
+      go Open (Atom p m) b t f = no_bracket (take m (drop p s)) [] [] k l (append-nil _ ∙ b)
+      go Close (Atom p m) b t f = no_bracket (take m (drop p s)) [] [] k l (append-nil _ ∙ b)
 
 -- no item is there, so none of these bytes
 pub no_item : {l b : List ℕ} → ItemBytes b → (Begins l → ⊥) → (r : List ℕ) → l ≡ b ++ r → ⊥
@@ -146,23 +138,23 @@ keep_loose k v w h = record { count = h.count; bad_so_far = h.bad_so_far; loose_
 
 module _ {n : ℕ} {s : List ℕ} where
   -- nothing that the goal can be stands there
-  refused : {g : ToRead} {gs : List ToRead} {c : Cursor} {m : Met} {b b' : List ℕ} → ((a : Fill g) (r : List ℕ) → drop c.at s ≡ spelled g a ++ r → ⊥) → ReadsOn n s (g ∷ gs) (To c m) b Out b'
+  refused : {g : ToRead} {gs : List ToRead} {c : Cursor} {m : Met} {b b' : List ℕ} → ((a : Fill g) (r : List ℕ) → drop c.at s ≡ spelled g a ++ r → ⊥) → ReadsOn n s (g ∷ gs) (Some (c, m)) b None b'
   refused {g} {gs} f = record { then_on = λ hs z end l. rw l (λ a r h. f a.0 (spelled_all (gs ++ hs) a.1 ++ r) (h ∙ append_assoc (spelled g a.0) (spelled_all (gs ++ hs) a.1) r)) }
 
   -- what stands there can be nothing else
-  passed : {g : ToRead} {c c' : Cursor} {m m' : Met} {b b' : List ℕ} (a : Fill g) → drop c.at s ≡ spelled g a ++ drop c'.at s → ((a' : Fill g) (r q : List ℕ) → spelled g a ++ r ≡ spelled g a' ++ q → r ≡ q) → ((w : Note) → Keeps w m b → Keeps (followed w (noted n g a)) m' b') → ReadsOn n s (g ∷ []) (To c m) b (To c' m') b'
+  passed : {g : ToRead} {c c' : Cursor} {m m' : Met} {b b' : List ℕ} (a : Fill g) → drop c.at s ≡ spelled g a ++ drop c'.at s → ((a' : Fill g) (r q : List ℕ) → spelled g a ++ r ≡ spelled g a' ++ q → r ≡ q) → ((w : Note) → Keeps w m b → Keeps (followed w (noted n g a)) m' b') → ReadsOn n s (g ∷ []) (Some (c, m)) b (Some (c', m')) b'
   passed {g} {c} {c'} {m} {m'} {b} {b'} a here u k = record { then_on = go }
     where
-      go : (hs : List ToRead) (z : Descent) (end : List ℕ) → Leads n s hs (To c' m') b' z end → Leads n s (g ∷ hs) (To c m) b z end
-      go hs Out end l = λ f r e. l f.1 r (u f.0 (drop c'.at s) (spelled_all hs f.1 ++ r) (sym here ∙ e ∙ append_assoc (spelled g f.0) (spelled_all hs f.1) r))
-      go hs (To c'' m'') end l = record {
+      go : (hs : List ToRead) (z : Descent) (end : List ℕ) → Leads n s hs (Some (c', m')) b' z end → Leads n s (g ∷ hs) (Some (c, m)) b z end
+      go hs None end l = λ f r e. l f.1 r (u f.0 (drop c'.at s) (spelled_all hs f.1 ++ r) (sym here ∙ e ∙ append_assoc (spelled g f.0) (spelled_all hs f.1) r))
+      go hs (Some (c'', m'')) end l = record {
         fills = (a, l.fills);
         here = here ∙ ap (λ (q : List ℕ). spelled g a ++ q) l.here ∙ sym (append_assoc (spelled g a) (spelled_all hs l.fills) (drop c''.at s));
         kept = λ w h. rw (← followed_assoc) (l.kept (followed w (noted n g a)) (k w h));
       }
 
 -- a node's kind takes nothing of the text
-node_reads : {n : ℕ} {s : List ℕ} {k : ℕ} {c : Cursor} {m m' : Met} {b b' : List ℕ} → Noted k 0 m b m' b' → ReadsOn n s (kind k ∷ []) (To c m) b (To c m') b'
+node_reads : {n : ℕ} {s : List ℕ} {k : ℕ} {c : Cursor} {m m' : Met} {b b' : List ℕ} → Noted k 0 m b m' b' → ReadsOn n s (kind k ∷ []) (Some (c, m)) b (Some (c, m')) b'
 node_reads o = passed tt refl (λ a r q e. e) o.kept
 
 -- the goals hs at another place say the same as gs: what they are makes what gs are, and the other way round
@@ -175,22 +167,21 @@ record Turns (n : ℕ) (s : List ℕ) (gs hs : List ToRead) (c c' : Cursor) : Ty
   back : (f : Fills gs) (r : List ℕ) → drop c.at s ≡ spelled_all gs f ++ r → (g : Fills hs) × (drop c'.at s ≡ spelled_all hs g ++ r)
 
 -- so they lead where these lead
-turned : {n : ℕ} {s : List ℕ} {gs hs : List ToRead} {c c' : Cursor} → Turns n s gs hs c c' → (m : Met) (b : List ℕ) (z : Descent) (end : List ℕ) → Leads n s hs (To c' m) b z end → Leads n s gs (To c m) b z end
-turned t m b Out end l = λ f r e. let g = t.back f r e in l g.0 r g.1
-turned {s} {hs} t m b (To c'' m'') end l = record {
+turned : {n : ℕ} {s : List ℕ} {gs hs : List ToRead} {c c' : Cursor} → Turns n s gs hs c c' → (m : Met) (b : List ℕ) (z : Descent) (end : List ℕ) → Leads n s hs (Some (c', m)) b z end → Leads n s gs (Some (c, m)) b z end
+turned t m b None end l = λ f r e. let g = t.back f r e in l g.0 r g.1
+turned {s} {hs} t m b (Some (c'', m'')) end l = record {
   fills = t.make l.fills;
   here = t.here ∙ ap (λ (q : List ℕ). t.before ++ q) l.here ∙ sym (append_assoc t.before (spelled_all hs l.fills) (drop c''.at s)) ∙ ap (λ (q : List ℕ). q ++ drop c''.at s) (sym (t.spell l.fills));
   kept = λ w k. rw (t.tell l.fills) (l.kept w k);
 }
 
 -- a place is ahead
-ahead_to : {s : List ℕ} {k : ℕ} {c : Cursor} {m : Met} → Beyond s k c.at m.nodes → Ahead s k (To c m)
+ahead_to : {s : List ℕ} {k : ℕ} {c : Cursor} {m : Met} → Beyond s k c.at m.nodes → Ahead s k (Some (c, m))
 ahead_to {s} {k} {c} {m} h c' m' e =
-    let p : c ≡ c' = cc in
-    let q : m ≡ m' = cc in
-    rw (← p, ← q) h
+    let p : ◌≡◌ {A = Cursor × Met} (c, m) (c', m') = cc in
+    subst (λ (x : Cursor × Met). Beyond s k x.0.at x.1.nodes) p h
 
-ahead_out : {s : List ℕ} {k : ℕ} {x : Descent} → x ≡ Out → Ahead s k x
+ahead_out : {s : List ℕ} {k : ℕ} {x : Descent} → x ≡ None → Ahead s k x
 ahead_out e c m f = impossible (cc)
 
 ahead_less : {s : List ℕ} {j k : ℕ} {x : Descent} → j ≤ k → Ahead s k x → Ahead s j x
@@ -199,23 +190,21 @@ ahead_less h f c m e = let g = f c m e in omega arith
 -- The next goal.
 
 -- out
-out_ahead : {s cells : List ℕ} {k : ℕ} (c : Cursor) (m : Met) (w : Waiting) → OutTurn ≡ ToTurn c m w → Beyond s k c.at m.nodes × GoalsStacked cells c.at w
+out_ahead : {s cells : List ℕ} {k : ℕ} (c : Cursor) (m : Met) (w : Waiting) → ◌≡◌ {A = Turn} None (Some (c, m, w)) → Beyond s k c.at m.nodes × GoalsStacked cells c.at w
 out_ahead c m w e = impossible (cc)
 
 -- a place, with what waits there
-turn_ahead : {s cells : List ℕ} {k : ℕ} {c : Cursor} {m : Met} {w : Waiting} → Beyond s k c.at m.nodes → GoalsStacked cells c.at w → (c' : Cursor) (m' : Met) (w' : Waiting) → ToTurn c m w ≡ ToTurn c' m' w' → Beyond s k c'.at m'.nodes × GoalsStacked cells c'.at w'
-turn_ahead {c} {m} {w} h g c' m' w' e =
-    let p : c ≡ c' = cc in
-    let q : m ≡ m' = cc in
-    let r : w ≡ w' = cc in
-    rw (← p, ← q, ← r) (h, g)
+turn_ahead : {s cells : List ℕ} {k : ℕ} {c : Cursor} {m : Met} {w : Waiting} → Beyond s k c.at m.nodes → GoalsStacked cells c.at w → (c' : Cursor) (m' : Met) (w' : Waiting) → ◌≡◌ {A = Turn} (Some (c, m, w)) (Some (c', m', w')) → Beyond s k c'.at m'.nodes × GoalsStacked cells c'.at w'
+turn_ahead {s} {cells} {k} {c} {m} {w} h g c' m' w' e =
+    let p : ◌≡◌ {A = Cursor × Met × Waiting} (c, m, w) (c', m', w') = cc in
+    subst (λ (x : Cursor × Met × Waiting). Beyond s k x.0.at x.1.nodes × GoalsStacked cells x.0.at x.2) p (h, g)
 
 -- goals that are read, before those that wait
 then_wait : {n : ℕ} {s : List ℕ} {gs : List ToRead} {x y : Descent} {b b' : List ℕ} → ReadsOn n s gs x b y b' → (hs : List ToRead) → Follows n s (gs ++ hs) x b hs y b'
 then_wait r hs = record { then_on = r.then_on hs }
 
 -- out, whatever waits
-out_waits : {n : ℕ} {s : List ℕ} {gs : List ToRead} {x : Descent} {b b' : List ℕ} → ReadsOn n s gs x b Out b' → (hs : List ToRead) → Follows n s (gs ++ hs) x b [] Out b'
+out_waits : {n : ℕ} {s : List ℕ} {gs : List ToRead} {x : Descent} {b b' : List ℕ} → ReadsOn n s gs x b None b' → (hs : List ToRead) → Follows n s (gs ++ hs) x b [] None b'
 out_waits r hs = record { then_on = r.then_on hs }
 
 -- one turn after another
@@ -225,21 +214,25 @@ follows_on p q = record { then_on = λ u end l. p.then_on u end (q.then_on u end
 -- A bracket.
 
 module _ {n : ℕ} {s : List ℕ} {k : ℕ} {c : Cursor} {m : Met} {b : List ℕ} where
-  bracket_out : {b' : List ℕ} → ((r : List ℕ) → drop c.at s ≡ k ∷ r → ⊥) → ReadsOn n s (bracket k ∷ []) (To c m) b Out b'
+  bracket_out : {b' : List ℕ} → ((r : List ℕ) → drop c.at s ≡ k ∷ r → ⊥) → ReadsOn n s (bracket k ∷ []) (Some (c, m)) b None b'
   bracket_out f = refused (λ a. f)
 
-  bracket_reads : {c' : Cursor} → Between s c.at c'.at (k ∷ []) → ReadsOn n s (bracket k ∷ []) (To c m) b (To c' m) b
+  bracket_reads : {c' : Cursor} → Between s c.at c'.at (k ∷ []) → ReadsOn n s (bracket k ∷ []) (Some (c, m)) b (Some (c', m)) b
   bracket_reads h = passed tt h.here (λ a r t e. tail-eq_of_cons-eq e) (λ v g. rw followed_end g)
 
--- it is passed, or is not there
-pub bracket_turn : {n : ℕ} {s : List ℕ} {k : ℕ} {c : Cursor} {m : Met} {b cells : List ℕ} {w : Waiting} (f : Found) → FoundAt k s c.at f → Beyond s 0 c.at m.nodes → GoalsStacked cells c.at w → Advances n s (bracket k ∷ waiting (drop w.top cells)) c m b (passed_bracket f m w) b cells
-bracket_turn {cells} {w} NoFound h p q = record { follows = out_waits (bracket_out h) (waiting (drop w.top cells)); ahead = out_ahead }
-bracket_turn {cells} {w} (Behind c') h p q = record { follows = then_wait (bracket_reads h) (waiting (drop w.top cells)); ahead = turn_ahead (omega arith) (record { on = q.on; room = omega arith; binds = q.binds }) }
+-- it is passed, or out
+abbrev pub passed_bracket : Option Cursor → Met → Waiting → Turn
+passed_bracket None m w = None
+passed_bracket (Some c) m w = Some (c, m, w)
+
+pub bracket_turn : {n : ℕ} {s : List ℕ} {k : ℕ} {c : Cursor} {m : Met} {b cells : List ℕ} {w : Waiting} (f : Option Cursor) → FoundAt k s c.at f → Beyond s 0 c.at m.nodes → GoalsStacked cells c.at w → Advances n s (bracket k ∷ waiting (drop w.top cells)) c m b (passed_bracket f m w) b cells
+bracket_turn {cells} {w} None h p q = record { follows = out_waits (bracket_out h) (waiting (drop w.top cells)); ahead = out_ahead }
+bracket_turn {cells} {w} (Some c') h p q = record { follows = then_wait (bracket_reads h) (waiting (drop w.top cells)); ahead = turn_ahead (omega arith) (record { on = q.on; room = omega arith; binds = q.binds }) }
 
 -- Terms.
 
 -- no tag, no term
-pub term_none : {n : ℕ} {s : List ℕ} {d : ℕ} {hs : List ToRead} {c : Cursor} {m : Met} {b b' cells : List ℕ} → ((k : ℕ) (r : List ℕ) → drop c.at s ≡ 40 ∷ bytes (atom (k ∷ [])) ++ r → ⊥) → Advances n s (one_term d ∷ hs) c m b OutTurn b' cells
+pub term_none : {n : ℕ} {s : List ℕ} {d : ℕ} {hs : List ToRead} {c : Cursor} {m : Met} {b b' cells : List ℕ} → ((k : ℕ) (r : List ℕ) → drop c.at s ≡ 40 ∷ bytes (atom (k ∷ [])) ++ r → ⊥) → Advances n s (one_term d ∷ hs) c m b None b' cells
 term_none {n} {d} {hs} f = record { follows = record { then_on = λ z end l. rw l (λ g r e. let t = made n d hs g r in f (tag t.row) _ (e ∙ t.is)) }; ahead = out_ahead }
 
 module _ {n : ℕ} {s : List ℕ} {k : ℕ} {c c' : Cursor} (t : Between s c.at c'.at (40 ∷ bytes (atom (k ∷ [])))) where
@@ -258,12 +251,12 @@ module _ {n : ℕ} {s : List ℕ} {k : ℕ} {c c' : Cursor} (t : Between s c.at 
 
   module _ {m : Met} {b : List ℕ} where
     -- the row's node, before what it announces
-    row_follows : (cells : List ℕ) (x : Row) → k ≡ tag x → Follows n s (one_term (ends cells) ∷ waiting cells) (To c m) b (node_of n (ends cells) x ∷ waiting (cells_of x ++ cells)) (To c' m) b
+    row_follows : (cells : List ℕ) (x : Row) → k ≡ tag x → Follows n s (one_term (ends cells) ∷ waiting cells) (Some (c, m)) b (node_of n (ends cells) x ∷ waiting (cells_of x ++ cells)) (Some (c', m)) b
     row_follows cells x e = rw (announced_parts n x cells) (record { then_on = turned (row_turns (ends cells) (waiting cells) x e) m b })
 
     module _ {w : Waiting} {y : Descent} {b' cells : List ℕ} (p : BeforeTerm n s cells c m w) where
       -- its node is not there
-      pub term_out : {cells' : List ℕ} → Heads n s w.binders k c' m b y b' → y ≡ Out → Advances n s (one_term w.binders ∷ waiting (drop w.top cells)) c m b OutTurn b' cells'
+      pub term_out : {cells' : List ℕ} → Heads n s w.binders k c' m b y b' → y ≡ None → Advances n s (one_term w.binders ∷ waiting (drop w.top cells)) c m b None b' cells'
       term_out (row x e r a) f =
           let cs : List ℕ = drop w.top cells in
           record { follows = rw p.stacked.binds (follows_on (row_follows cs x e) (out_waits (rw (p.stacked.binds, f) at r) (waiting (cells_of x ++ cs)))); ahead = out_ahead }
@@ -273,7 +266,7 @@ module _ {n : ℕ} {s : List ℕ} {k : ℕ} {c c' : Cursor} (t : Between s c.at 
       }
 
       -- it is, and what the row announces waits then
-      pub term_turn : {w' : Waiting} {c'' : Cursor} {m'' : Met} {cells' : List ℕ} → Heads n s w.binders k c' m b y b' → y ≡ To c'' m'' → Announces k w cells w' cells' → length cells' ≡ length cells → Advances n s (one_term w.binders ∷ waiting (drop w.top cells)) c m b (ToTurn c'' m'' w') b' cells'
+      pub term_turn : {w' : Waiting} {c'' : Cursor} {m'' : Met} {cells' : List ℕ} → Heads n s w.binders k c' m b y b' → y ≡ Some (c'', m'') → Announces k w cells w' cells' → length cells' ≡ length cells → Advances n s (one_term w.binders ∷ waiting (drop w.top cells)) c m b (Some (c'', m'', w')) b' cells'
       term_turn {c''} {m''} (row x e r a) f g l =
           let cs : List ℕ = drop w.top cells in
           let h = g.by_row x e in
@@ -291,7 +284,7 @@ module _ {n : ℕ} {s : List ℕ} {d k : ℕ} {c : Cursor} {m : Met} {b b' : Lis
   numbered_head x e r = row x e r.reads (ahead_less (omega arith) r.ahead)
 
   -- a node without one
-  pub plain_head : {m' : Met} {j : ℕ} (x : Row) → k ≡ tag x → node_of n d x ≡ kind j → m.nodes + 1 ≤ c.at → c.at ≤ length s → Noted j 0 m b m' b' → Heads n s d k c m b (To c m') b'
+  pub plain_head : {m' : Met} {j : ℕ} (x : Row) → k ≡ tag x → node_of n d x ≡ kind j → m.nodes + 1 ≤ c.at → c.at ≤ length s → Noted j 0 m b m' b' → Heads n s d k c m b (Some (c, m')) b'
   plain_head x e f h g o = row x e (rw f (node_reads o)) (ahead_to (omega (arith, o.one_more)))
 
 -- What waits.
@@ -314,26 +307,26 @@ module _ {n : ℕ} {s cells : List ℕ} {c : Cursor} {m : Met} {w : Waiting} (p 
     next_term t a = rw (next_goal cells w.top t, ← rest_binds t refl) a
 
     -- an opening bracket
-    pub next_open : (f : Found) → Tops cells w.top 2 → FoundAt 40 s c.at f → Advances n s (waiting (drop w.top cells)) c m b (passed_bracket f m (record { top = w.top + 1; binders = w.binders })) b cells
+    pub next_open : (f : Option Cursor) → Tops cells w.top 2 → FoundAt 40 s c.at f → Advances n s (waiting (drop w.top cells)) c m b (passed_bracket f m (record { top = w.top + 1; binders = w.binders })) b cells
     next_open f t h = rw (next_goal cells w.top t) (bracket_turn f h p.beyond (rest_stacked t.on (rest_binds t refl)))
 
     -- a closing bracket
-    pub next_close : (f : Found) → Tops cells w.top 3 → FoundAt 41 s c.at f → Advances n s (waiting (drop w.top cells)) c m b (passed_bracket f m (record { top = w.top + 1; binders = w.binders })) b cells
+    pub next_close : (f : Option Cursor) → Tops cells w.top 3 → FoundAt 41 s c.at f → Advances n s (waiting (drop w.top cells)) c m b (passed_bracket f m (record { top = w.top + 1; binders = w.binders })) b cells
     next_close f t h = rw (next_goal cells w.top t) (bracket_turn f h p.beyond (rest_stacked t.on (rest_binds t refl)))
 
     -- a closing bracket that ends a binder
-    pub next_end_close : (f : Found) → w.top < length cells → 4 ≤ get_or cells w.top 0 → FoundAt 41 s c.at f → Advances n s (waiting (drop w.top cells)) c m b (passed_bracket f m (record { top = w.top + 1; binders = w.binders - 1 })) b cells
+    pub next_end_close : (f : Option Cursor) → w.top < length cells → 4 ≤ get_or cells w.top 0 → FoundAt 41 s c.at f → Advances n s (waiting (drop w.top cells)) c m b (passed_bracket f m (record { top = w.top + 1; binders = w.binders - 1 })) b cells
     next_end_close f l g h =
         let e = next_end cells w.top l g in
         rw e.0 (bracket_turn f h p.beyond (rest_stacked l (omega (arith, p.stacked.binds, e.1))))
 
     module _ (t : Tops cells w.top 1) {m' : Met} {b' : List ℕ} where
       -- the closing bracket ends the members
-      pub members_end : {c' : Cursor} → Between s c.at c'.at (41 ∷ []) → Noted 0 0 m b m' b' → Advances n s (waiting (drop w.top cells)) c m b (ToTurn c' m' (record { top = w.top + 1; binders = w.binders })) b' cells
+      pub members_end : {c' : Cursor} → Between s c.at c'.at (41 ∷ []) → Noted 0 0 m b m' b' → Advances n s (waiting (drop w.top cells)) c m b (Some (c', m', (record { top = w.top + 1; binders = w.binders }))) b' cells
       unfolding bytes encode note
       members_end {c'} h o =
           let cs : List ℕ = drop (w.top + 1) cells in
-          let e : ReadsOn n s (members (ends cs) ∷ []) (To c m) b (To c' m') b' = passed raw_empty h.here (λ a r q e. (members_prefix nothing (encode a) r q (e ∙ append_snoc (bytes (encode a)) 41 q)).1) o.kept in
+          let e : ReadsOn n s (members (ends cs) ∷ []) (Some (c, m)) b (Some (c', m')) b' = passed raw_empty h.here (λ a r q e. (members_prefix nothing (encode a) r q (e ∙ append_snoc (bytes (encode a)) 41 q)).1) o.kept in
           record { follows = rw (next_goal cells w.top t) (then_wait e (waiting cs)); ahead = turn_ahead (omega (arith, p.beyond, o.one_more)) (record { on = omega (arith, t.on); room = omega (arith, p.stacked.room); binds = rest_binds t refl }) }
 
       -- another member
@@ -343,14 +336,14 @@ module _ {n : ℕ} {s cells : List ℕ} {c : Cursor} {m : Met} {w : Waiting} (p 
           let d : ℕ = ends cs in
           let hs : List ToRead = waiting cs in
           let turns : Turns n s (members d ∷ hs) (kind 1 ∷ one_term d ∷ members d ∷ hs) c c = record { before = []; here = refl; make = program_of n d hs; spell = program_spelled n d hs; tell = program_noted n d hs; back = λ a r e. member n d hs a (drop c.at s) r f e } in
-          let more : Follows n s (members d ∷ hs) (To c m) b (one_term d ∷ members d ∷ hs) (To c m') b' = follows_on (record { then_on = turned turns m b }) (then_wait (node_reads o) (one_term d ∷ members d ∷ hs)) in
+          let more : Follows n s (members d ∷ hs) (Some (c, m)) b (one_term d ∷ members d ∷ hs) (Some (c, m')) b' = follows_on (record { then_on = turned turns m b }) (then_wait (node_reads o) (one_term d ∷ members d ∷ hs)) in
           record { follows = rw (next_goal cells w.top t) (follows_on more (rw (rest_binds t refl, next_goal cells w.top t) at a.follows)); ahead = a.ahead }
 
 -- The loop.
 
 -- where what waits leads, the goals gs lead from the place c₀ on
 pub record Looping (n : ℕ) (s : List ℕ) (gs : List ToRead) (c₀ : Cursor) (m₀ : Met) (b₀ cells₀ : List ℕ) (c : Cursor) (m : Met) (w : Waiting) (b cells : List ℕ) : Type 0 where
-  pub follows : Follows n s gs (To c₀ m₀) b₀ (waiting (drop w.top cells)) (To c m) b
+  pub follows : Follows n s gs (Some (c₀, m₀)) b₀ (waiting (drop w.top cells)) (Some (c, m)) b
   pub stands : BeforeGoal n s cells c m w
   pub same_long : length b ≡ length b₀
   pub same_deep : length cells ≡ length cells₀
@@ -368,18 +361,18 @@ loop_start {cells} {cells₂} {t₂} h g k p q l =
 
 module _ {n : ℕ} {s : List ℕ} {gs : List ToRead} {c₀ : Cursor} {m₀ : Met} {b₀ cells₀ : List ℕ} {c : Cursor} {m : Met} {w : Waiting} {b cells : List ℕ} (l : Looping n s gs c₀ m₀ b₀ cells₀ c m w b cells) where
   -- nothing waits
-  pub loop_end : w.top ≡ length cells → Follows n s gs (To c₀ m₀) b₀ [] (To c m) b × Ahead s 0 (To c m)
+  pub loop_end : w.top ≡ length cells → Follows n s gs (Some (c₀, m₀)) b₀ [] (Some (c, m)) b × Ahead s 0 (Some (c, m))
   loop_end e =
       let f : drop w.top cells ≡ [] = rw (e, drop-length cells) in
       (rw f at l.follows, ahead_to l.stands.beyond)
 
   module _ {y : Turn} {b' cells' : List ℕ} (a : Advances n s (waiting (drop w.top cells)) c m b y b' cells') where
     -- the next goal is not there
-    pub loop_out : y ≡ OutTurn → Follows n s gs (To c₀ m₀) b₀ [] Out b' × Ahead s 0 Out
+    pub loop_out : y ≡ None → Follows n s gs (Some (c₀, m₀)) b₀ [] None b' × Ahead s 0 None
     loop_out e = (follows_on l.follows (rw e at a.follows), ahead_out refl)
 
     -- it is passed
-    pub loop_again : {c' : Cursor} {m' : Met} {w' : Waiting} → y ≡ ToTurn c' m' w' → length b' ≡ length b → length cells' ≡ length cells → Looping n s gs c₀ m₀ b₀ cells₀ c' m' w' b' cells'
+    pub loop_again : {c' : Cursor} {m' : Met} {w' : Waiting} → y ≡ Some (c', m', w') → length b' ≡ length b → length cells' ≡ length cells → Looping n s gs c₀ m₀ b₀ cells₀ c' m' w' b' cells'
     loop_again {c'} {m'} {w'} e p q =
         let h = a.ahead c' m' w' e in
         record {
@@ -393,24 +386,24 @@ module _ {n : ℕ} {s : List ℕ} {gs : List ToRead} {c₀ : Cursor} {m₀ : Met
 
 module _ {s : List ℕ} {c : Cursor} {m : Met} {k below d : ℕ} where
   -- no atom is there
-  pub number_out : {b b' : List ℕ} → ((a r : List ℕ) → drop c.at s ≡ bytes (atom a) ++ r → ⊥) → (n : ℕ) → Descends n s (number k below d ∷ []) c m b Out b'
+  pub number_out : {b b' : List ℕ} → ((a r : List ℕ) → drop c.at s ≡ bytes (atom a) ++ r → ⊥) → (n : ℕ) → Descends n s (number k below d ∷ []) c m b None b'
   number_out f n = record { reads = refused f; ahead = ahead_out refl }
 
   module _ {b b' : List ℕ} {place len : ℕ} {next : Cursor} (a : AtomBetween s c.at place len next.at) (few : m.nodes ≤ c.at) where
-    number_to : {m' : Met} → m'.nodes ≡ m.nodes + 1 → ((w : Note) → Keeps w m b → Keeps (followed w (number_note k below d (take len (drop place s)))) m' b') → (n : ℕ) → Descends n s (number k below d ∷ []) c m b (To next m') b'
+    number_to : {m' : Met} → m'.nodes ≡ m.nodes + 1 → ((w : Note) → Keeps w m b → Keeps (followed w (number_note k below d (take len (drop place s)))) m' b') → (n : ℕ) → Descends n s (number k below d ∷ []) c m b (Some (next, m')) b'
     number_to e f n = record { reads = passed (take len (drop place s)) a.between.here (λ q r t g. (bytes_prefix (atom (take len (drop place s))) (atom q) r t g).1) f; ahead = ahead_to (omega arith) }
 
     -- it is no number in range
-    pub number_bad : NumberIs (take len (drop place s)) below not_plain → b' ≡ b → (n : ℕ) → Descends n s (number k below d ∷ []) c m b (To next (record { nodes = m.nodes + 1; bad = true; loose = m.loose })) b'
+    pub number_bad : NumberIs (take len (drop place s)) below not_plain → b' ≡ b → (n : ℕ) → Descends n s (number k below d ∷ []) c m b (Some (next, (record { nodes = m.nodes + 1; bad = true; loose = m.loose }))) b'
     number_bad h e = number_to refl (λ w g. rw (note_unread k d h, e) (keep_bad k _ _ w g))
 
     module _ {v : ℕ} {m' : Met} (h : NumberIs (take len (drop place s)) below (record { refusal = 0; values = v ∷ [] })) (o : Noted k v m b m' b') where
       -- it is an index beyond its binders
-      pub number_loose : k ≡ 2 → d ≤ v → (n : ℕ) → Descends n s (number k below d ∷ []) c m b (To next (record { nodes = m'.nodes; bad = m'.bad; loose = true })) b'
+      pub number_loose : k ≡ 2 → d ≤ v → (n : ℕ) → Descends n s (number k below d ∷ []) c m b (Some (next, (record { nodes = m'.nodes; bad = m'.bad; loose = true }))) b'
       number_loose e l = number_to o.one_more (λ w g. rw (note_read k d true h (rw (e, le-leb d v l))) (keep_loose k v w (o.kept w g)))
 
       -- it is no index, or one with its binder
-      pub number_bound : (k ≡ 2 → v < d) → (n : ℕ) → Descends n s (number k below d ∷ []) c m b (To next m') b'
+      pub number_bound : (k ≡ 2 → v < d) → (n : ℕ) → Descends n s (number k below d ∷ []) c m b (Some (next, m')) b'
       number_bound f = number_to o.one_more (λ w g. rw (note_read k d false h (go (eqb k 2) refl)) (o.kept w g))
         where
           go : (t : Bool) → eqb k 2 ≡ t → (eqb k 2 && leb d v) ≡ false
@@ -425,8 +418,8 @@ text_spelled r = rw append-nil
 
 -- nothing more is to be read
 leads_end : (n : ℕ) (s b : List ℕ) (y : Descent) → Leads n s [] y b y b
-leads_end n s b Out = refl
-leads_end n s b (To c m) = record { fills = tt; here = refl; kept = λ w k. rw followed_end k }
+leads_end n s b None = refl
+leads_end n s b (Some (c, m)) = record { fills = tt; here = refl; kept = λ w k. rw followed_end k }
 
 -- the program that was read, before what follows it
 pub record Whole (n : ℕ) (s : List ℕ) (c : Cursor) (m : Met) (b : List ℕ) : Type 0 where
@@ -438,16 +431,16 @@ pub record Whole (n : ℕ) (s : List ℕ) (c : Cursor) (m : Met) (b : List ℕ) 
 abbrev nothing_met : Met
 nothing_met = record { nodes = 0; bad = false; loose = false }
 
-module _ {n : ℕ} {s : List ℕ} {c : Cursor} {b b' : List ℕ} {y : Descent} (start : c.at ≡ 0) (h : Follows n s (bracket 40 ∷ members 0 ∷ []) (To c nothing_met) b [] y b' × Ahead s 0 y) where
-  leads : Leads n s (bracket 40 ∷ members 0 ∷ []) (To c nothing_met) b y b'
+module _ {n : ℕ} {s : List ℕ} {c : Cursor} {b b' : List ℕ} {y : Descent} (start : c.at ≡ 0) (h : Follows n s (bracket 40 ∷ members 0 ∷ []) (Some (c, nothing_met)) b [] y b' × Ahead s 0 y) where
+  leads : Leads n s (bracket 40 ∷ members 0 ∷ []) (Some (c, nothing_met)) b y b'
   leads = h.0.then_on y b' (leads_end n s b' y)
 
   -- no program stands at the beginning
-  pub parse_out : y ≡ Out → Parses n s b' (none_found OutOfPlace)
+  pub parse_out : y ≡ None → Parses n s b' (none_found OutOfPlace)
   parse_out e = out (λ r t. (rw (e, start) at leads) (tt, (r, tt)) [] (sym t ∙ text_spelled r ∙ sym (append-nil _)))
 
   -- one does
-  pub whole : {c' : Cursor} {m : Met} → y ≡ To c' m → Whole n s c' m b'
+  pub whole : {c' : Cursor} {m : Met} → y ≡ Some (c', m) → Whole n s c' m b'
   whole {c'} {m} e =
       let p : Passes n s (bracket 40 ∷ members 0 ∷ []) c.at nothing_met b c'.at m b' = rw e at leads in
       let r = p.fills.1.0 in

@@ -7,6 +7,7 @@ use Prim.Native.Nat.{ℕ, ◌*◌, ◌≤◌, ◌<◌}
 use native.Mathlib.Omega.{arith}
 use lib.ListN.{length, get_or, take, drop}
 use lib.Seq.{sets, slice, length-take-le}
+use Rattle.std.specs.Prelude.{Result, Ok, Err, is_ok}
 use Rattle.calculus.specs.declared.Refusal.{Refusal}
 use Rattle.calculus.specs.declared.Refusal.TheVariants as refusal
 use Rattle.calculus.specs.Tree.{program, Tree, nodes, preorder, threads}
@@ -16,17 +17,15 @@ use Rattle.calculus.specs.Sexp.{one, Sexp, bytes}
 use Rattle.calculus.specs.Text.{Raw, raw, raw_text, text}
 use Rattle.calculus.specs.Answers.{Values}
 use Rattle.calculus.specs.Calls.{Refuses, put_front, TextOf, read_refusals, Reads, read, refused, TableOf, plain_refusals}
+use Rattle.calculus.proofs.Answers.{number_positive}
 use Rattle.calculus.proofs.Preorders.{preorder_length}
 use Rattle.calculus.proofs.Outcomes.{text_of_unique, table_of_unique}
 use Rattle.csexp.specs.Items.{OneExpression}
 use Rattle.table.specs.Checks.{checked_number, Checks}
-use Rattle.table.specs.declared.Checked.{Checked}
-use Rattle.table.specs.declared.Checked.TheVariants.{Refused}
 use Rattle.table.proofs.Sets.{sets_front}
-use Rattle.table.proofs.Verdicts.{AdmittedIn, refused_there}
+use Rattle.table.proofs.Verdicts.{AdmittedIn, admitted_there, refused_there}
 use Rattle.column.specs.Sizes.{Countable, all_nodes, CountedAfresh}
-use Rattle.reading.specs.declared.Parsed.{Parsed}
-use Rattle.reading.specs.Reading.{none_found, parsed_values, Parses, out, bad, loose, of_nodes}
+use Rattle.reading.specs.Reading.{none_found, Parses, out, bad, loose, of_nodes}
 
 -- past the scan: the text is short, and one expression
 pub record Scanned (n : ℕ) (b : List ℕ) : Type 0 where
@@ -85,16 +84,18 @@ not_parsed into s g (bad r h f) = refused refusal.BadNumber (inr (not_long s, in
 not_parsed into s g (loose p t f) = refused refusal.NoBinder (past_five s t into refusal.NoBinder (inl ((p, (t, f)), refl)))
 not_parsed into s g (of_nodes p t c k) = absurd (g refl)
 
--- whatever the answer is known to be
-pub decide : {n : ℕ} {b build : List ℕ} {r x : Parsed} (into : Sheet) → Scanned n b → r ≡ x → ((parsed_values x).refusal ≡ 0 → ⊥) → Parses n b build (parsed_values r) → Reads n b into (parsed_values x) into
-decide into s e f h = not_parsed into s f (rw e at h)
+pub read_unparsed : {n : ℕ} {b build : List ℕ} {into : Sheet} (r : Refusal) → Scanned n b → Parses n b build (none_found r) → Reads n b into (none_found r) into
+read_unparsed {into} r s h = not_parsed into s (λ e. omega (arith, number_positive r, e)) h
 
 -- or the program is there
-pub parsed_there : {n : ℕ} {b build : List ℕ} {v : Values} {m : ℕ} → Scanned n b → v ≡ record { refusal = 0; values = m ∷ [] } → Parses n b build v → ParsedThere n b build m
-parsed_there s e (out f) = absurd (omega (arith, ap (λ (v : Values). v.refusal) e))
-parsed_there s e (bad r h f) = absurd (omega (arith, ap (λ (v : Values). v.refusal) e))
-parsed_there s e (loose p t f) = absurd (omega (arith, ap (λ (v : Values). v.refusal) e))
-parsed_there s e (of_nodes p t c k) = let q : nodes p ≡ _ = ap (λ (v : Values). get_or v.values 0 0) e in record { scanned = s; tree = p; text_of = t; closed = c; counts = q; stored = rw (← q) k }
+there : {n : ℕ} {b build : List ℕ} {v : Values} {m : ℕ} → Scanned n b → v ≡ record { refusal = 0; values = m ∷ [] } → Parses n b build v → ParsedThere n b build m
+there s e (out f) = absurd (omega (arith, ap (λ (v : Values). v.refusal) e))
+there s e (bad r h f) = absurd (omega (arith, ap (λ (v : Values). v.refusal) e))
+there s e (loose p t f) = absurd (omega (arith, ap (λ (v : Values). v.refusal) e))
+there s e (of_nodes p t c k) = let q : nodes p ≡ _ = ap (λ (v : Values). get_or v.values 0 0) e in record { scanned = s; tree = p; text_of = t; closed = c; counts = q; stored = rw (← q) k }
+
+pub parsed_there : {n : ℕ} {b build : List ℕ} {m : ℕ} → Scanned n b → Parses n b build (record { refusal = 0; values = m ∷ [] }) → ParsedThere n b build m
+parsed_there s h = there s refl h
 
 -- The program is there.
 module _ {n : ℕ} {b build : List ℕ} {m : ℕ} (h : ParsedThere n b build m) where
@@ -115,6 +116,11 @@ module _ {n : ℕ} {b build : List ℕ} {m : ℕ} (h : ParsedThere n b build m) 
   -- or the build table is its table
   pub load : m ≤ n → 2 * n ≤ length build → Loaded n b build m
   load l r = record { parsed = h; table_of = record { counts = h.counts; small = l; within = omega arith; is = h.stored (omega arith); ranges = h.text_of.ranges } }
+
+-- what the check admits is a program's table
+pub admits : {n count : ℕ} {t : List ℕ} (r : Result Unit Refusal) → true ≡ is_ok r → Checks n t count (checked_number r) → AdmittedIn n t count
+admits (Ok u) e k = admitted_there refl k
+admits (Err q) e k = absurd (cc)
 
 -- Its nodes are not too many.
 module _ {n : ℕ} {b build : List ℕ} {m : ℕ} (h : Loaded n b build m) where
@@ -141,9 +147,10 @@ module _ {n : ℕ} {b build : List ℕ} {m : ℕ} (h : Loaded n b build m) where
   not_coherent r (inr (f, inr (k, inr g))) c = absurd g.1
 
   -- a thread is not coherent
-  pub read_incoherent : {into : Sheet} {r : Checked} {q : Refusal} → r ≡ Refused q → Checks n build m (checked_number r) → Reads n b into (none_found refusal.Incoherent) into
-  read_incoherent {into} e k =
-      let s = refused_there e k in
+  pub read_incoherent : {into : Sheet} (r : Result Unit Refusal) → false ≡ is_ok r → Checks n build m (checked_number r) → Reads n b into (none_found refusal.Incoherent) into
+  read_incoherent (Ok u) e k = absurd (cc)
+  read_incoherent {into} (Err q) e k =
+      let s = refused_there refl k in
       refused refusal.Incoherent (past_seven into refusal.Incoherent (inl ((this, (h.parsed.text_of, not_coherent s.0 s.1.1)), refl)))
 
   -- The check admits a program: it is this one.

@@ -1,23 +1,15 @@
 -- What the private functions of the reader say: the items that the grammar asks for, what a descent notes of the nodes that it passes, and where it leads.
-use Rattle.std.specs.Prelude.{◌≡◌, Bool, true, false, not, ◌||◌, ◌&&◌, List, [], ◌∷◌, ◌++◌, ℕ, ◌+◌, ◌*◌, ◌≤◌, ◌<◌, eqb, ltb, leb, length, get_or, take, drop}
+use Rattle.std.specs.Prelude.{◌≡◌, Bool, true, false, not, ◌||◌, ◌&&◌, List, [], ◌∷◌, ◌++◌, ℕ, ◌+◌, ◌*◌, ◌≤◌, ◌<◌, eqb, ltb, leb, length, get_or, take, drop, Option, Some, None}
 use Rattle.calculus.specs.Tree.{Sort, term, program, Pair, pair_kind}
 use Rattle.calculus.specs.Good.{constructors}
 use Rattle.calculus.specs.Sexp.{decimal, atom, bytes}
 use Rattle.calculus.specs.Text.{Leaf, bound_leaf, free_leaf, con_leaf, Raw, raw_empty, raw_alt, raw_leaf, raw_code, raw_at, raw_fresh, raw_two, leaf_tag, pair_tag, encode}
 use Rattle.calculus.proofs.Decimals.{number_of}
 use Rattle.csexp.specs.declared.Cursor.{Cursor}
-use Rattle.reading.specs.declared.items.Found.{Found}
-use Rattle.reading.specs.declared.items.Found.TheVariants.{No as NoFound, Behind}
-use Rattle.reading.specs.declared.items.Atomic.{Atomic}
-use Rattle.reading.specs.declared.items.Atomic.TheVariants.{No as NoAtom, Of}
-use Rattle.reading.specs.declared.items.Tag.{Tag}
-use Rattle.reading.specs.declared.items.Tag.TheVariants.{No as NoTag, Is}
+use Rattle.reading.specs.declared.goals.Goal.{Goal}
+use Rattle.reading.specs.declared.goals.Goal.TheVariants.{Term, Members, Open, Close, CloseBinder}
 use Rattle.reading.specs.declared.goals.Waiting.{Waiting}
 use Rattle.reading.specs.declared.parse.Met.{Met}
-use Rattle.reading.specs.declared.parse.Descent.{Descent}
-use Rattle.reading.specs.declared.parse.Descent.TheVariants.{Out, To}
-use Rattle.reading.specs.declared.parse.Turn.{Turn}
-use Rattle.reading.specs.declared.parse.Turn.TheVariants.{Out as OutTurn, To as ToTurn}
 
 -- Items.
 
@@ -28,9 +20,9 @@ pub record Between (s : List ℕ) (at next : ℕ) (item : List ℕ) : Type 0 whe
   pub here : drop at s ≡ item ++ drop next s
 
 -- the bracket k, or another byte or none
-abbrev pub FoundAt : ℕ → List ℕ → ℕ → Found → Type 0
-FoundAt k s at NoFound = (r : List ℕ) → drop at s ≡ k ∷ r → ⊥
-FoundAt k s at (Behind c) = Between s at c.at (k ∷ [])
+abbrev pub FoundAt : ℕ → List ℕ → ℕ → Option Cursor → Type 0
+FoundAt k s at None = (r : List ℕ) → drop at s ≡ k ∷ r → ⊥
+FoundAt k s at (Some c) = Between s at c.at (k ∷ [])
 
 -- an atom of the n bytes from a place on, which is right behind its length and the colon
 pub record AtomBetween (s : List ℕ) (at place n next : ℕ) : Type 0 where
@@ -38,14 +30,14 @@ pub record AtomBetween (s : List ℕ) (at place n next : ℕ) : Type 0 where
   pub next_is : next ≡ place + n
   pub between : Between s at next (bytes (atom (take n (drop place s))))
 
-abbrev pub AtomAt : List ℕ → ℕ → Atomic → Type 0
-AtomAt s at NoAtom = (b r : List ℕ) → drop at s ≡ bytes (atom b) ++ r → ⊥
-AtomAt s at (Of place n c) = AtomBetween s at place n c.at
+abbrev pub AtomAt : List ℕ → ℕ → Option (ℕ × ℕ × Cursor) → Type 0
+AtomAt s at None = (b r : List ℕ) → drop at s ≡ bytes (atom b) ++ r → ⊥
+AtomAt s at (Some (place, n, c)) = AtomBetween s at place n c.at
 
 -- an opening bracket and an atom of one byte
-abbrev pub TagAt : List ℕ → ℕ → Tag → Type 0
-TagAt s at NoTag = (k : ℕ) (r : List ℕ) → drop at s ≡ 40 ∷ bytes (atom (k ∷ [])) ++ r → ⊥
-TagAt s at (Is k c) = (at + 2 ≤ c.at) × Between s at c.at (40 ∷ bytes (atom (k ∷ [])))
+abbrev pub TagAt : List ℕ → ℕ → Option (ℕ × Cursor) → Type 0
+TagAt s at None = (k : ℕ) (r : List ℕ) → drop at s ≡ 40 ∷ bytes (atom (k ∷ [])) ++ r → ⊥
+TagAt s at (Some (k, c)) = (at + 2 ≤ c.at) × Between s at c.at (40 ∷ bytes (atom (k ∷ [])))
 
 -- Nodes.
 
@@ -168,11 +160,15 @@ pub record Passes (n : ℕ) (s : List ℕ) (gs : List ToRead) (at : ℕ) (m : Me
   pub here : drop at s ≡ spelled_all gs fills ++ drop next s
   pub kept : (w : Note) → Keeps w m build → Keeps (followed w (noted_all n gs fills)) m' build'
 
+-- outside the grammar, or so far, with what was met
+abbrev pub Descent : Type 0
+Descent = Option (Cursor × Met)
+
 -- where the descent x leads if these goals are still to be read: out, if they don't stand there
 abbrev pub Leads : ℕ → List ℕ → List ToRead → Descent → List ℕ → Descent → List ℕ → Type 0
-Leads n s gs Out build z end = z ≡ Out
-Leads n s gs (To c m) build Out end = (f : Fills gs) (r : List ℕ) → drop c.at s ≡ spelled_all gs f ++ r → ⊥
-Leads n s gs (To c m) build (To c' m') end = Passes n s gs c.at m build c'.at m' end
+Leads n s gs None build z end = z ≡ None
+Leads n s gs (Some (c, m)) build None end = (f : Fills gs) (r : List ℕ) → drop c.at s ≡ spelled_all gs f ++ r → ⊥
+Leads n s gs (Some (c, m)) build (Some (c', m')) end = Passes n s gs c.at m build c'.at m' end
 
 -- x becomes y by reading the goals: whatever is to be read behind them, where y leads x leads
 pub record ReadsOn (n : ℕ) (s : List ℕ) (gs : List ToRead) (x : Descent) (build : List ℕ) (y : Descent) (build' : List ℕ) : Type 0 where
@@ -186,11 +182,11 @@ pub record Beyond (s : List ℕ) (k at nodes : ℕ) : Type 0 where
 
 -- out, or such a place
 abbrev pub Ahead : List ℕ → ℕ → Descent → Type 0
-Ahead s k x = (c : Cursor) (m : Met) → x ≡ To c m → Beyond s k c.at m.nodes
+Ahead s k x = (c : Cursor) (m : Met) → x ≡ Some (c, m) → Beyond s k c.at m.nodes
 
 -- what a descent by these goals owes
 pub record Descends (n : ℕ) (s : List ℕ) (gs : List ToRead) (c : Cursor) (m : Met) (build : List ℕ) (y : Descent) (build' : List ℕ) : Type 0 where
-  pub reads : ReadsOn n s gs (To c m) build y build'
+  pub reads : ReadsOn n s gs (Some (c, m)) build y build'
   pub ahead : Ahead s (c.at + 1) y
 
 -- Tags.
@@ -219,10 +215,18 @@ node_of n d (pair o) = kind (pair_kind o)
 
 -- the node of the tag k is read, which leaves at most as many nodes as places; or no row has this tag
 pub data Heads (n : ℕ) (s : List ℕ) (d k : ℕ) (c : Cursor) (m : Met) (build : List ℕ) (y : Descent) (build' : List ℕ) : Type 0 where
-  row : (x : Row) → k ≡ tag x → ReadsOn n s (node_of n d x ∷ []) (To c m) build y build' → Ahead s c.at y → Heads n s d k c m build y build'
-  no_row : ((x : Row) → k ≡ tag x → ⊥) → y ≡ Out → Heads n s d k c m build y build'
+  row : (x : Row) → k ≡ tag x → ReadsOn n s (node_of n d x ∷ []) (Some (c, m)) build y build' → Ahead s c.at y → Heads n s d k c m build y build'
+  no_row : ((x : Row) → k ≡ tag x → ⊥) → y ≡ None → Heads n s d k c m build y build'
 
 -- The goals that wait, as cells of a stack, the next first.
+
+-- the cells of a goal
+abbrev pub Codes : Goal → ℕ → Type 0
+Codes Term cell = cell ≡ 0
+Codes Members cell = cell ≡ 1
+Codes Open cell = cell ≡ 2
+Codes Close cell = cell ≡ 3
+Codes CloseBinder cell = 4 ≤ cell
 
 -- the binders that end among them: 0 a term, 1 members, 2 an opening bracket, 3 a closing one, and any other a closing one that ends a binder
 abbrev pub ends : List ℕ → ℕ
@@ -283,20 +287,19 @@ pub record Tops (cells : List ℕ) (top goal : ℕ) : Type 0 where
   pub on : top < length cells
   pub is : get_or cells top 0 ≡ goal
 
--- a bracket is passed, or out
-abbrev pub passed : Found → Met → Waiting → Turn
-passed NoFound m w = OutTurn
-passed (Behind c) m w = ToTurn c m w
+-- the same of a turn, and what waits
+abbrev pub Turn : Type 0
+Turn = Option (Cursor × Met × Waiting)
 
 -- the descent of a turn
 abbrev pub descent : Turn → Descent
-descent OutTurn = Out
-descent (ToTurn c m w) = To c m
+descent None = None
+descent (Some (c, m, w)) = Some (c, m)
 
 -- what waits then
 abbrev pub left : Turn → List ℕ → List ToRead
-left OutTurn cells = []
-left (ToTurn c m w) cells = waiting (drop w.top cells)
+left None cells = []
+left (Some (c, m, w)) cells = waiting (drop w.top cells)
 
 -- x before the goals gs becomes y before the goals hs: where y leads then, x leads
 pub record Follows (n : ℕ) (s : List ℕ) (gs : List ToRead) (x : Descent) (build : List ℕ) (hs : List ToRead) (y : Descent) (build' : List ℕ) : Type 0 where
@@ -304,5 +307,5 @@ pub record Follows (n : ℕ) (s : List ℕ) (gs : List ToRead) (x : Descent) (bu
 
 -- what a turn owes
 pub record Advances (n : ℕ) (s : List ℕ) (gs : List ToRead) (c : Cursor) (m : Met) (build : List ℕ) (y : Turn) (build' cells' : List ℕ) : Type 0 where
-  pub follows : Follows n s gs (To c m) build (left y cells') (descent y) build'
-  pub ahead : (c' : Cursor) (m' : Met) (w' : Waiting) → y ≡ ToTurn c' m' w' → Beyond s (c.at + 1) c'.at m'.nodes × GoalsStacked cells' c'.at w'
+  pub follows : Follows n s gs (Some (c, m)) build (left y cells') (descent y) build'
+  pub ahead : (c' : Cursor) (m' : Met) (w' : Waiting) → y ≡ Some (c', m', w') → Beyond s (c.at + 1) c'.at m'.nodes × GoalsStacked cells' c'.at w'

@@ -1,25 +1,20 @@
 -- What a parse of a text finds.
-use Rattle.std.specs.Prelude.{◌≡◌, List, [], ◌∷◌, ℕ, ◌*◌, ◌≤◌, length, take}
+use Rattle.std.specs.Prelude.{◌≡◌, List, [], ◌∷◌, ℕ, ◌*◌, ◌≤◌, length, take, Result}
 use Rattle.calculus.specs.declared.Refusal.{Refusal}
 use Rattle.calculus.specs.declared.Refusal.TheVariants.{OutOfPlace, BadNumber, NoBinder}
 use Rattle.calculus.specs.Tree.{program, Tree, nodes, preorder}
 use Rattle.calculus.specs.Good.{Closed}
 use Rattle.calculus.specs.Text.{Raw, raw_text}
-use Rattle.calculus.specs.Answers.{number, Values}
+use Rattle.calculus.specs.Answers.{number, Values, counted_values}
 use Rattle.calculus.specs.Calls.{TextOf}
-use Rattle.reading.specs.declared.Parsed.{Parsed}
-use Rattle.reading.specs.declared.Parsed.TheVariants.{Out, Bad, Loose, Nodes}
 
 -- no program is found: document 01's number, and a count of 0
 abbrev pub none_found : Refusal → Values
 none_found r = record { refusal = number r; values = 0 ∷ [] }
 
 -- document 01's number and the nodes for each answer
-abbrev pub parsed_values : Parsed → Values
-parsed_values Out = none_found OutOfPlace
-parsed_values Bad = none_found BadNumber
-parsed_values Loose = none_found NoBinder
-parsed_values (Nodes n) = record { refusal = 0; values = n ∷ [] }
+abbrev pub parsed_values : Result ℕ Refusal → Values
+parsed_values r = counted_values r
 
 -- The text is not in the grammar; it is, and an N is not a plain decimal in its range; it is a program's, and an index has no binder;
 -- or it is that of a closed program, of so many nodes, which then stand at the front of the build table if that holds them.

@@ -1,77 +1,52 @@
 // What the grammar asks of the next items of a text. Each takes a cursor and hands the next one on.
+ghost use Rattle.std.specs.Prelude.{◌≡◌, ℕ, ◌<◌, [], ◌∷◌};
+ghost use Rattle.csexp.specs.Items.{item_bytes};
 ghost use Rattle.reading.specs.Descent.{FoundAt, AtomAt, TagAt};
 
 use crate::reader::item_from;
-use csexp::{Cursor, Item, Taken};
+use csexp::{Cursor, Item};
 
-// Where a bracket leads: behind it, or it is not there.
-#[derive(Clone, Copy)]
-pub enum Found {
-    No,
-    Behind(Cursor),
+// Behind this bracket, where it is next.
+fn bracket(s: &[u8], c: Cursor, which: Item) -> Option<Cursor>
+    ensures { (k : ℕ) → k < 48 → item_bytes s.now which ≡ k ∷ [] → FoundAt k s.now c.at result }
+{
+    match c.take(s) {
+        Ok((item, next)) if item == which => Some(next),
+        _ => None,
+    }
 }
 
-// Behind an opening bracket, where one is next.
-pub fn open_at(s: &[u8], c: Cursor) -> Found
+/// Behind an opening bracket, where one is next.
+pub fn open_at(s: &[u8], c: Cursor) -> Option<Cursor>
     ensures { FoundAt 40 s.now c.at result }
 {
-    if let Taken::Next(i, next) = c.take(s) {
-        if let Item::Open = i {
-            return Found::Behind(next);
-        }
-    }
-    Found::No
+    bracket(s, c, Item::Open)
 }
 
-// The same for a closing one.
-pub fn close_at(s: &[u8], c: Cursor) -> Found
+/// The same for a closing one.
+pub fn close_at(s: &[u8], c: Cursor) -> Option<Cursor>
     ensures { FoundAt 41 s.now c.at result }
 {
-    if let Taken::Next(i, next) = c.take(s) {
-        if let Item::Close = i {
-            return Found::Behind(next);
-        }
-    }
-    Found::No
+    bracket(s, c, Item::Close)
 }
 
-// An atom: where its bytes begin, how many there are, and the cursor behind it.
-#[derive(Clone, Copy)]
-pub enum Atomic {
-    No,
-    Of(usize, usize, Cursor),
-}
-
-pub fn atom_at(s: &[u8], c: Cursor) -> Atomic
+/// An atom: where its bytes begin, how many there are, and the cursor behind it.
+pub fn atom_at(s: &[u8], c: Cursor) -> Option<(usize, usize, Cursor)>
     ensures { AtomAt s.now c.at result }
 {
-    if let Taken::Next(i, next) = item_from(s, c.at) {
-        if let Item::Atom(place, n) = i {
-            return Atomic::Of(place, n, next);
-        }
-    }
-    Atomic::No
+    let Ok((item, next)) = item_from(s, c.at) else {
+        return None;
+    };
+    let Item::Atom(place, n) = item else {
+        return None;
+    };
+    Some((place, n, next))
 }
 
-// A term's opening bracket and its tag of one byte.
-#[derive(Clone, Copy)]
-pub enum Tag {
-    No,
-    Is(u8, Cursor),
-}
-
-pub fn tag_at(s: &[u8], c: Cursor) -> Tag
+/// A term's tag of one byte, behind its opening bracket, and the cursor behind it.
+pub fn tag_at(s: &[u8], c: Cursor) -> Option<(u8, Cursor)>
     ensures { TagAt s.now c.at result }
 {
-    let Found::Behind(c1) = open_at(s, c) else {
-        return Tag::No;
-    };
-    let Atomic::Of(place, n, c2) = atom_at(s, c1) else {
-        return Tag::No;
-    };
-    if n == 1 {
-        Tag::Is(s[place], c2)
-    } else {
-        Tag::No
-    }
+    let (place, n, next) = atom_at(s, open_at(s, c)?)?;
+    if n == 1 { Some((s[place], next)) } else { None }
 }

@@ -1,13 +1,12 @@
 // One descent over the grammar. It gives 4 at once, and carries on for 5, 6 and 7 to the end of the text, past the node limit.
-ghost use Rattle.std.specs.Prelude.{◌≡◌, [], ◌∷◌, ℕ, ◌+◌, ◌^◌, ◌<◌, ◌≤◌, length, drop};
-ghost use Rattle.reading.specs.declared.parse.Descent.TheVariants.{To};
+ghost use Rattle.std.specs.Prelude.{◌≡◌, [], ◌∷◌, ℕ, ◌+◌, ◌^◌, ◌<◌, ◌≤◌, length, drop, Some};
 ghost use Rattle.reading.specs.Reading.{Parses, parsed_values};
-ghost use Rattle.reading.specs.Descent.{Noted, Heads, BeforeTerm, BeforeGoal, Tops, passed, Beyond, Ahead, Follows, Advances, Descends, number, bracket, one_term, members, waiting};
+ghost use Rattle.reading.specs.Descent.{Noted, Heads, BeforeTerm, BeforeGoal, Tops, Beyond, Ahead, Follows, Advances, Descends, number, bracket, one_term, members, waiting};
 
-use crate::Parsed;
-use crate::goals::{CLOSE, MEMBERS, OPEN, TERM, Waiting, announced, push};
-use crate::items::{Atomic, Found, Tag, atom_at, close_at, open_at, tag_at};
-use crate::numbers::{Number, number_in};
+use crate::goals::{Goal, Waiting, announced, push};
+use crate::items::{atom_at, close_at, open_at, tag_at};
+use crate::numbers::number_in;
+use calculus::Refusal;
 use csexp::Cursor;
 use table::kinds::{
     ABSTRACTION, ALLOCATED, ALTERNATIVE, APPLICATION, BOUND, CONSTRUCTOR, EMPTY, FREE, FRESH,
@@ -15,7 +14,7 @@ use table::kinds::{
 };
 use table::nodes::put_node;
 
-// What a descent has met: the nodes, and whether an N was bad or an index without its binder.
+/// What a descent has met: the nodes, and whether an N was bad or an index without its binder.
 #[derive(Clone, Copy)]
 pub struct Met {
     pub nodes: usize,
@@ -23,36 +22,18 @@ pub struct Met {
     pub loose: bool,
 }
 
-// Outside the grammar, or so far.
-#[derive(Clone, Copy)]
-pub enum Descent {
-    Out,
-    To(Cursor, Met),
-}
-
-// The same of a turn, and what waits.
-#[derive(Clone, Copy)]
-pub enum Turn {
-    Out,
-    To(Cursor, Met, Waiting),
-}
-
 // One more node, stored where there is room for it and counted in any case.
 fn noted(m: Met, kind: u16, number: u16, build: &mut [u16]) -> Met
     requires { m.nodes < 2 ^ 63 }
     ensures { Noted kind number m build.old result build.new }
 {
-    let at = m.nodes;
-    let more = Met {
-        nodes: at + 1,
-        bad: m.bad,
-        loose: m.loose,
-    };
-    if build.len() / 2 <= at {
-        return more;
+    if m.nodes < build.len() / 2 {
+        put_node(build, m.nodes, kind, number);
     }
-    put_node(build, at, kind, number);
-    more
+    Met {
+        nodes: m.nodes + 1,
+        ..m
+    }
 }
 
 // The N of a node of this kind, below its bound. An index has its binder among the d around it.
@@ -64,39 +45,36 @@ fn numbered(
     below: usize,
     d: usize,
     build: &mut [u16],
-) -> Descent
+) -> Option<(Cursor, Met)>
     requires { (below ≤ 65536) × (m.nodes ≤ c.at) }
     ensures { (n : ℕ) → Descends n s.now (number kind below d ∷ []) c m build.old result build.new }
 {
-    let Atomic::Of(place, n, next) = atom_at(s, c) else {
-        return Descent::Out;
-    };
-    let Number::Is(v) = number_in(s, place, n, below) else {
-        return Descent::To(
-            next,
-            Met {
-                nodes: m.nodes + 1,
-                bad: true,
-                loose: m.loose,
-            },
-        );
+    let (place, n, next) = atom_at(s, c)?;
+    let Some(v) = number_in(s, place, n, below) else {
+        let q = Met {
+            nodes: m.nodes + 1,
+            bad: true,
+            ..m
+        };
+        return Some((next, q));
     };
     let q = noted(m, kind, v, build);
     if kind == BOUND && d <= v as usize {
-        return Descent::To(
-            next,
-            Met {
-                nodes: q.nodes,
-                bad: q.bad,
-                loose: true,
-            },
-        );
+        return Some((next, Met { loose: true, ..q }));
     }
-    Descent::To(next, q)
+    Some((next, q))
 }
 
 // The node of a term with this tag, d binders around it: its kind, and its N where it has one.
-fn head(s: &[u8], c: Cursor, m: Met, tag: u8, limit: usize, d: usize, build: &mut [u16]) -> Descent
+fn head(
+    s: &[u8],
+    c: Cursor,
+    m: Met,
+    tag: u8,
+    limit: usize,
+    d: usize,
+    build: &mut [u16],
+) -> Option<(Cursor, Met)>
     requires { (limit < 65536) × (m.nodes + 1 ≤ c.at) × (c.at ≤ length s.now) }
     ensures { Heads limit s.now d tag c m build.old result build.new }
 {
@@ -104,13 +82,13 @@ fn head(s: &[u8], c: Cursor, m: Met, tag: u8, limit: usize, d: usize, build: &mu
         b'v' => numbered(s, c, m, BOUND, limit, d, build),
         b'x' => numbered(s, c, m, FREE, limit, d, build),
         b'c' => numbered(s, c, m, CONSTRUCTOR, 65536, d, build),
-        b'l' => Descent::To(c, noted(m, ABSTRACTION, 0, build)),
+        b'l' => Some((c, noted(m, ABSTRACTION, 0, build))),
         b'L' => numbered(s, c, m, ALLOCATED, limit, d, build),
-        b'n' => Descent::To(c, noted(m, FRESH, 0, build)),
-        b'a' => Descent::To(c, noted(m, APPLICATION, 0, build)),
-        b'g' => Descent::To(c, noted(m, GUARD, 0, build)),
-        b'u' => Descent::To(c, noted(m, UNIFICATION, 0, build)),
-        _ => Descent::Out,
+        b'n' => Some((c, noted(m, FRESH, 0, build))),
+        b'a' => Some((c, noted(m, APPLICATION, 0, build))),
+        b'g' => Some((c, noted(m, GUARD, 0, build))),
+        b'u' => Some((c, noted(m, UNIFICATION, 0, build))),
+        _ => None,
     }
 }
 
@@ -123,17 +101,13 @@ fn begun(
     limit: usize,
     build: &mut [u16],
     goals: &mut [u8],
-) -> Turn
+) -> Option<(Cursor, Met, Waiting)>
     requires { BeforeTerm limit s.now goals.old c m w }
     ensures { Advances limit s.now (one_term w.binders ∷ waiting (drop w.top goals.old)) c m build.old result build.new goals.new }
 {
-    let Tag::Is(tag, next) = tag_at(s, c) else {
-        return Turn::Out;
-    };
-    let Descent::To(after, q) = head(s, next, m, tag, limit, w.binders, build) else {
-        return Turn::Out;
-    };
-    Turn::To(after, q, announced(tag, w, goals))
+    let (tag, next) = tag_at(s, c)?;
+    let (after, q) = head(s, next, m, tag, limit, w.binders, build)?;
+    Some((after, q, announced(tag, w, goals)))
 }
 
 // The members of a program that are the next goal: its closing bracket, or a term before them.
@@ -145,20 +119,17 @@ fn member(
     limit: usize,
     build: &mut [u16],
     goals: &mut [u8],
-) -> Turn
+) -> Option<(Cursor, Met, Waiting)>
     requires before_goal { BeforeGoal limit s.now goals.old c m w }
     requires tops { Tops goals.old w.top 1 }
     ensures { Advances limit s.now (waiting (drop w.top goals.old)) c m build.old result build.new goals.new }
 {
-    if let Found::Behind(next) = close_at(s, c) {
-        return Turn::To(
-            next,
-            noted(m, EMPTY, 0, build),
-            Waiting {
-                top: w.top + 1,
-                binders: w.binders,
-            },
-        );
+    if let Some(next) = close_at(s, c) {
+        let rest = Waiting {
+            top: w.top + 1,
+            ..w
+        };
+        return Some((next, noted(m, EMPTY, 0, build), rest));
     }
     begun(
         s,
@@ -171,16 +142,6 @@ fn member(
     )
 }
 
-// Behind a bracket, where there is one.
-fn behind(found: Found, m: Met, w: Waiting) -> Turn
-    ensures { result ≡ passed found m w }
-{
-    let Found::Behind(next) = found else {
-        return Turn::Out;
-    };
-    Turn::To(next, m, w)
-}
-
 // Reads the next goal.
 fn advance(
     s: &[u8],
@@ -190,29 +151,27 @@ fn advance(
     limit: usize,
     build: &mut [u16],
     goals: &mut [u8],
-) -> Turn
+) -> Option<(Cursor, Met, Waiting)>
     requires before_goal { BeforeGoal limit s.now goals.old c m w }
     requires top_in_bounds { w.top < length goals.old }
     ensures { Advances limit s.now (waiting (drop w.top goals.old)) c m build.old result build.new goals.new }
 {
-    let top = w.top;
     let rest = Waiting {
-        top: top + 1,
-        binders: w.binders,
+        top: w.top + 1,
+        ..w
     };
-    match goals[top] {
-        TERM => begun(s, c, m, rest, limit, build, goals),
-        MEMBERS => member(s, c, m, w, limit, build, goals),
-        OPEN => behind(open_at(s, c), m, rest),
-        CLOSE => behind(close_at(s, c), m, rest),
-        _ => behind(
-            close_at(s, c),
-            m,
-            Waiting {
-                top: top + 1,
+    match Goal::of(goals[w.top]) {
+        Goal::Term => begun(s, c, m, rest, limit, build, goals),
+        Goal::Members => member(s, c, m, w, limit, build, goals),
+        Goal::Open => Some((open_at(s, c)?, m, rest)),
+        Goal::Close => Some((close_at(s, c)?, m, rest)),
+        Goal::CloseBinder => {
+            let outside = Waiting {
                 binders: w.binders - 1,
-            },
-        ),
+                ..rest
+            };
+            Some((close_at(s, c)?, m, outside))
+        }
     }
 }
 
@@ -224,35 +183,28 @@ fn descend(
     limit: usize,
     build: &mut [u16],
     goals: &mut [u8],
-) -> Descent
+) -> Option<(Cursor, Met)>
     requires { (limit < 65536) × (length s.now + 2 ≤ length goals.old) × Beyond s.now 0 c.at m.nodes }
-    ensures follows { Follows limit s.now (bracket 40 ∷ members 0 ∷ []) (To c m) build.old [] result build.new }
+    ensures follows { Follows limit s.now (bracket 40 ∷ members 0 ∷ []) (Some (c, m)) build.old [] result build.new }
     ensures ahead { Ahead s.now 0 result }
 {
     let end = goals.len();
-    let last = push(goals, end, MEMBERS);
+    let last = push(goals, end, Goal::Members as u8);
     let mut w = Waiting {
-        top: push(goals, last, OPEN),
+        top: push(goals, last, Goal::Open as u8),
         binders: 0,
     };
     let mut at = c;
     let mut met = m;
-    loop {
-        let top = w.top;
-        if top == goals.len() {
-            return Descent::To(at, met);
-        }
-        let Turn::To(next, q, v) = advance(s, at, met, w, limit, build, goals) else {
-            return Descent::Out;
-        };
-        at = next;
-        met = q;
-        w = v;
+    // A `while`, since a turn reads one goal and pushes others.
+    while w.top != goals.len() {
+        (at, met, w) = advance(s, at, met, w, limit, build, goals)?;
     }
+    Some((at, met))
 }
 
-// The whole text as one program. The goals are lent: what is still to be read.
-pub fn parse(s: &[u8], limit: usize, build: &mut [u16], goals: &mut [u8]) -> Parsed
+/// The whole text as one program, and its nodes. The goals are lent: what is still to be read.
+pub fn parse(s: &[u8], limit: usize, build: &mut [u16], goals: &mut [u8]) -> Result<usize, Refusal>
     requires limit_bound { limit < 65536 }
     requires s_in_bounds { length s.now + 2 ≤ length goals.old }
     ensures { Parses limit s.now build.new (parsed_values result) }
@@ -262,19 +214,15 @@ pub fn parse(s: &[u8], limit: usize, build: &mut [u16], goals: &mut [u8]) -> Par
         bad: false,
         loose: false,
     };
-    let Descent::To(c, m) = descend(s, Cursor::start(), none, limit, build, goals) else {
-        return Parsed::Out;
-    };
-    let at = c.at;
-    if at != s.len() {
-        return Parsed::Out; // more stands behind the program
+    let (c, m) = descend(s, Cursor::start(), none, limit, build, goals).ok_or(Refusal::OutOfPlace)?;
+    if c.at != s.len() {
+        return Err(Refusal::OutOfPlace); // more stands behind the program
     }
     if m.bad {
-        return Parsed::Bad;
+        return Err(Refusal::BadNumber);
     }
     if m.loose {
-        Parsed::Loose
-    } else {
-        Parsed::Nodes(m.nodes)
+        return Err(Refusal::NoBinder);
     }
+    Ok(m.nodes)
 }

@@ -1,22 +1,14 @@
-// A text and a place in it, held together, and the item that stands there. The work is done by `item_at`, on the slice and the number;
-// `reader_at`, `next_item` and `item_from` are thin.
+// A text and a place in it, held together, and the item that stands there.
 ghost use Rattle.std.specs.Prelude.{◌≡◌};
 ghost use Rattle.csexp.specs.Items.{Takes};
 
-use csexp::{Cursor, Taken};
+use csexp::{Cursor, Item, Torn};
 
-// The reading place stays together with the text it belongs to.
-#[derive(Drop)]
+/// The reading place stays together with the text it belongs to.
+#[derive(Clone, Copy)]
 pub struct Reader<'a> {
     pub text: &'a [u8],
     pub at: usize,
-}
-
-// The work: the item at a place of a text.
-fn item_at(text: &[u8], at: usize) -> Taken
-    ensures { Takes text.now at result }
-{
-    Cursor { at }.take(text)
 }
 
 pub fn reader_at<'a>(text: &'a [u8], at: usize) -> Reader<'a>
@@ -25,14 +17,15 @@ pub fn reader_at<'a>(text: &'a [u8], at: usize) -> Reader<'a>
     Reader { text, at }
 }
 
-pub fn next_item<'a>(r: Reader<'a>) -> Taken
+/// The item where a reader stands.
+pub fn next_item<'a>(r: Reader<'a>) -> Result<(Item, Cursor), Torn>
     ensures { Takes r.entry.text.now r.entry.at result }
 {
-    item_at(r.text, r.at)
+    Cursor { at: r.at }.take(r.text)
 }
 
-// The item at a place of a text, by a reader of its own.
-pub fn item_from(text: &[u8], at: usize) -> Taken
+/// The item at a place of a text, by a reader of its own.
+pub fn item_from(text: &[u8], at: usize) -> Result<(Item, Cursor), Torn>
     ensures { Takes text.now at result }
 {
     next_item(reader_at(text, at))

@@ -6,8 +6,8 @@ use mathlib.Core.List.{[], ◌∷◌}
 use Prim.Native.Nat.{◌-◌}
 use Rattle.reading.proofs.parse.descend.Given as goal
 
-abbrev pub invariant-loop-goals : goal.invariant-loop-goals
-invariant-loop-goals l = Looping l.limit l.s (bracket 40 ∷ members 0 ∷ []) l.initial.at l.initial.met l.initial.build l.initial.goals l.at l.met l.w l.build l.goals
+abbrev pub invariant-loop-w : goal.invariant-loop-w
+invariant-loop-w l = Looping l.limit l.s (bracket 40 ∷ members 0 ∷ []) l.initial.at l.initial.met l.initial.build l.initial.goals l.at l.met l.w l.build l.goals
 
-abbrev pub decreases-loop-goals : goal.decreases-loop-goals
-decreases-loop-goals l = length l.s - l.at.at
+abbrev pub decreases-loop-w : goal.decreases-loop-w
+decreases-loop-w l = length l.s - l.at.at

@@ -1,10 +1,9 @@
 -- `reading::parse::noted` meets its contract.
-use mathlib.Core.Path.{refl}
+use mathlib.Core.Path.{◌∙◌}
+use native.Mathlib.Omega.{arith}
 use Rattle.reading.proofs.Descents.{node_stored, node_counted}
 use Rattle.reading.proofs.parse.noted.Goals as goal
-
-pub returns-then-build-at : goal.returns-then-build-at
-returns-then-build-at c = node_counted refl c.if-build-at.true
+use Rattle.reading.proofs.parse.noted.Goals.{then-m-build, else-m-build}
 
 pub returns : goal.returns
-returns c = node_stored c.put_node.ensures
+returns c = elim c.if-m-build.branch [ then-m-build w ↦ node_stored (w.build-is ∙ w.put_node.ensures) | else-m-build w ↦ node_counted w.build-is (omega arith) ]

@@ -1,75 +1,56 @@
 -- `reading::read::read` meets its contract: the scan, the parse and the check of the build table decide the refusals in their order, and only then is anything written.
-use mathlib.Core.Path.{◌≡◌, ap}
+use mathlib.Core.Path.{◌≡◌}
 use native.Mathlib.Omega.{arith}
-use borrow.Author.Tests.{not-true, not-false}
-use Rattle.calculus.specs.Sheets.{sheet}
-use Rattle.calculus.specs.Calls.{Reads}
+use Rattle.std.proofs.Common.{rules, ℕ, Result, Err}
+use Rattle.calculus.specs.declared.Refusal.{Refusal}
+use Rattle.calculus.specs.declared.Refusal.TheVariants.{Incoherent}
 use Rattle.table.specs.Checks.{checked_number, Checks}
-use Rattle.table.proofs.Verdicts.{AdmittedIn, limit_in_force, admitted_there}
-use Rattle.reading.specs.Reading.{parsed_values}
-use Rattle.reading.specs.declared.Parsed.{Parsed}
-use Rattle.reading.proofs.Readings.{Scanned, ParsedThere, Loaded, read_too_long, read_not_canonical, scan, decide, parsed_there, read_too_many, load, read_incoherent, read_no_room, load_countable, read_done}
+use Rattle.table.proofs.Verdicts.{limit_in_force}
+use Rattle.reading.proofs.Readings.{Scanned, Loaded, read_too_long, read_not_canonical, scan, read_unparsed, parsed_there, read_too_many, load, read_incoherent, admits, read_no_room, load_countable, read_done}
 use Rattle.reading.proofs.read.read.Goals as goal
+use Rattle.reading.proofs.read.read.Goals.{Else-not-is_one, Else-limit-nodes, After-check}
+
+-- past the scan
+scanned : (c : Else-not-is_one) → Scanned c.args.limit c.args.text.now
+scanned c = scan (omega arith) c.if-not-is_one.false c.is_one.ensures
+
+-- past the node limit
+loaded : (c : Else-limit-nodes) → Loaded c.args.limit c.args.text.now c.parse.new.build c.in_ok-nodes.nodes
+loaded c = load (parsed_there (scan (omega arith) c.if-not-is_one.false c.is_one.ensures) c.in_ok-nodes.ensures) (omega arith) (omega (arith, c.parse.auto.build))
+
+-- the check of the build table
+checked : (c : After-check) → Checks c.args.limit c.parse.new.build c.in_ok-nodes.nodes (checked_number c.check.result)
+checked c = rw (limit_in_force _ _ c.requires.limit_bound c.requires.limit_in_bounds_2) at c.check.ensures
 
 pub returns-then-limit-text : goal.returns-then-limit-text
 returns-then-limit-text c = read_too_long (omega arith)
 
 pub returns-then-not-is_one : goal.returns-then-not-is_one
-returns-then-not-is_one c = read_not_canonical (omega arith) (not-true c.is_one.result c.if-not-is_one.true-raw) c.is_one.ensures
+returns-then-not-is_one c = read_not_canonical (omega arith) c.if-not-is_one.true c.is_one.ensures
 
-pub returns-in-Out : goal.returns-in-Out
-returns-in-Out c =
-    let scanned : let s = c.args in Scanned s.limit s.text.now = let one = c.is_one in scan (omega (arith, c.if-limit-text)) (not-false one.result c.if-not-is_one.false-raw) one.ensures in
-    let decided : (x : Parsed) → c.parse.result ≡ x → ((parsed_values x).refusal ≡ 0 → ⊥) → let s = c.args in let into = sheet s.out.now s.column.now in Reads s.limit s.text.now into (parsed_values x) into = λ x. λ e f. decide _ (scanned) e f c.parse.ensures in
-    decided _ c.in-Out.is (λ e. omega (arith, e))
-
-pub returns-in-Bad : goal.returns-in-Bad
-returns-in-Bad c =
-    let scanned : let s = c.args in Scanned s.limit s.text.now = let one = c.is_one in scan (omega (arith, c.if-limit-text)) (not-false one.result c.if-not-is_one.false-raw) one.ensures in
-    let decided : (x : Parsed) → c.parse.result ≡ x → ((parsed_values x).refusal ≡ 0 → ⊥) → let s = c.args in let into = sheet s.out.now s.column.now in Reads s.limit s.text.now into (parsed_values x) into = λ x. λ e f. decide _ (scanned) e f c.parse.ensures in
-    decided _ c.in-Bad.is (λ e. omega (arith, e))
-
-pub returns-in-Loose : goal.returns-in-Loose
-returns-in-Loose c =
-    let scanned : let s = c.args in Scanned s.limit s.text.now = let one = c.is_one in scan (omega (arith, c.if-limit-text)) (not-false one.result c.if-not-is_one.false-raw) one.ensures in
-    let decided : (x : Parsed) → c.parse.result ≡ x → ((parsed_values x).refusal ≡ 0 → ⊥) → let s = c.args in let into = sheet s.out.now s.column.now in Reads s.limit s.text.now into (parsed_values x) into = λ x. λ e f. decide _ (scanned) e f c.parse.ensures in
-    decided _ c.in-Loose.is (λ e. omega (arith, e))
+pub returns-in_err-nodes : goal.returns-in_err-nodes
+returns-in_err-nodes c =
+    let e : c.from_residual.result ≡ Err c.in_err-nodes.field-0.0 = search rules in
+    rw e (read_unparsed c.in_err-nodes.field-0.0 (scanned (goal.at.returns-in_err-nodes c).Else-not-is_one) c.in_err-nodes.ensures)
 
 pub returns-then-limit-nodes : goal.returns-then-limit-nodes
-returns-then-limit-nodes c =
-    let scanned : let s = c.args in Scanned s.limit s.text.now = let one = c.is_one in scan (omega (arith, c.if-limit-text)) (not-false one.result c.if-not-is_one.false-raw) one.ensures in
-    let parsed : let s = c.args in ParsedThere s.limit s.text.now (c.parse.new.build) c.in-Nodes.n = parsed_there (scanned) (ap parsed_values c.in-Nodes.is) c.parse.ensures in
-    read_too_many (parsed) (omega arith)
+returns-then-limit-nodes c = read_too_many (parsed_there (scanned (goal.at.returns-then-limit-nodes c).Else-not-is_one) c.in_ok-nodes.ensures) (omega arith)
 
-pub returns-in_default : goal.returns-in_default
-returns-in_default c =
-    let scanned : let s = c.args in Scanned s.limit s.text.now = let one = c.is_one in scan (omega (arith, c.if-limit-text)) (not-false one.result c.if-not-is_one.false-raw) one.ensures in
-    let parsed : let s = c.args in ParsedThere s.limit s.text.now (c.parse.new.build) c.in-Nodes.n = parsed_there (scanned) (ap parsed_values c.in-Nodes.is) c.parse.ensures in
-    let loaded : let s = c.args in Loaded s.limit s.text.now (c.parse.new.build) c.in-Nodes.n = load (parsed) (omega (arith, c.if-limit-nodes)) (omega (arith, c.parse.auto, c.requires.limit_bound, c.requires.limit_in_bounds, c.requires.limit_in_bounds_2, c.requires.limit_in_bounds_3)) in
-    let checked : Checks c.args.limit (c.parse.new.build) c.in-Nodes.n (checked_number c.check.result) = rw (limit_in_force _ _ c.requires.limit_bound c.requires.limit_in_bounds_2) at c.check.ensures in
-    read_incoherent (loaded) c.in_default.is (checked)
+pub returns-in_err-map_err : goal.returns-in_err-map_err
+returns-in_err-map_err c =
+    let e : ◌≡◌ {A = Result ℕ Refusal} c.from_residual-in_err-map_err.result (Err Incoherent) = search rules in
+    let p = goal.at.returns-in_err-map_err c in
+    rw e (read_incoherent (loaded p.Else-limit-nodes) c.check.result c.in_err-map_err.ensures.variant (checked p.After-check))
 
 pub returns-then-holds-nodes : goal.returns-then-holds-nodes
 returns-then-holds-nodes c =
-    let scanned : let s = c.args in Scanned s.limit s.text.now = let one = c.is_one in scan (omega (arith, c.if-limit-text)) (not-false one.result c.if-not-is_one.false-raw) one.ensures in
-    let parsed : let s = c.args in ParsedThere s.limit s.text.now (c.parse.new.build) c.in-Nodes.n = parsed_there (scanned) (ap parsed_values c.in-Nodes.is) c.parse.ensures in
-    let loaded : let s = c.args in Loaded s.limit s.text.now (c.parse.new.build) c.in-Nodes.n = load (parsed) (omega (arith, c.if-limit-nodes)) (omega (arith, c.parse.auto, c.requires.limit_bound, c.requires.limit_in_bounds, c.requires.limit_in_bounds_2, c.requires.limit_in_bounds_3)) in
-    let checked : Checks c.args.limit (c.parse.new.build) c.in-Nodes.n (checked_number c.check.result) = rw (limit_in_force _ _ c.requires.limit_bound c.requires.limit_in_bounds_2) at c.check.ensures in
-    let admits : AdmittedIn c.args.limit (c.parse.new.build) c.in-Nodes.n = admitted_there c.in-Admitted.is (checked) in
-    read_no_room (loaded) (admits) (omega (arith, c.holds.ensures))
+    let p = goal.at.returns-then-holds-nodes c in
+    read_no_room (loaded p.Else-limit-nodes) (admits c.check.result c.in_ok-map_err.ensures.variant (checked p.After-check)) (omega (arith, c.holds.ensures))
 
 pub count_column-requires-clause-countable : goal.count_column-requires-clause-countable
-count_column-requires-clause-countable c =
-    let scanned : let s = c.args in Scanned s.limit s.text.now = let one = c.is_one in scan (omega (arith, c.if-limit-text)) (not-false one.result c.if-not-is_one.false-raw) one.ensures in
-    let parsed : let s = c.args in ParsedThere s.limit s.text.now (c.parse.new.build) c.in-Nodes.n = parsed_there (scanned) (ap parsed_values c.in-Nodes.is) c.parse.ensures in
-    let loaded : let s = c.args in Loaded s.limit s.text.now (c.parse.new.build) c.in-Nodes.n = load (parsed) (omega (arith, c.if-limit-nodes)) (omega (arith, c.parse.auto, c.requires.limit_bound, c.requires.limit_in_bounds, c.requires.limit_in_bounds_2, c.requires.limit_in_bounds_3)) in
-    let h = loaded in load_countable h
+count_column-requires-clause-countable c = load_countable (loaded (goal.at.count_column-requires-clause-countable c).Else-limit-nodes)
 
 pub returns : goal.returns
 returns c =
-    let scanned : let s = c.args in Scanned s.limit s.text.now = let one = c.is_one in scan (omega (arith, c.if-limit-text)) (not-false one.result c.if-not-is_one.false-raw) one.ensures in
-    let parsed : let s = c.args in ParsedThere s.limit s.text.now (c.parse.new.build) c.in-Nodes.n = parsed_there (scanned) (ap parsed_values c.in-Nodes.is) c.parse.ensures in
-    let loaded : let s = c.args in Loaded s.limit s.text.now (c.parse.new.build) c.in-Nodes.n = load (parsed) (omega (arith, c.if-limit-nodes)) (omega (arith, c.parse.auto, c.requires.limit_bound, c.requires.limit_in_bounds, c.requires.limit_in_bounds_2, c.requires.limit_in_bounds_3)) in
-    let checked : Checks c.args.limit (c.parse.new.build) c.in-Nodes.n (checked_number c.check.result) = rw (limit_in_force _ _ c.requires.limit_bound c.requires.limit_in_bounds_2) at c.check.ensures in
-    let admits : AdmittedIn c.args.limit (c.parse.new.build) c.in-Nodes.n = admitted_there c.in-Admitted.is (checked) in
-    read_done (loaded) (admits) (omega (arith, c.if-holds-nodes, c.holds.ensures)) c.copy_nodes.ensures.1 c.count_column.ensures
+    let p = goal.at.returns c in
+    read_done (loaded p.Else-limit-nodes) (admits c.check.result c.in_ok-map_err.ensures.variant (checked p.After-check)) (omega (arith, c.holds.ensures)) c.copy_nodes.ensures.1 c.count_column.ensures
