@@ -4,6 +4,7 @@ use mathlib.Core.Logic.{inl}
 use mathlib.Core.List.{List, [], ◌∷◌, ◌++◌}
 use Prim.Native.Nat.{ℕ, ◌+◌, ◌*◌, ◌-◌, ◌≤◌, ◌<◌}
 use native.Mathlib.Omega.{arith}
+use Rattle.std.specs.Prelude.{Option, Some, None}
 use lib.ListN.{length, get_or, take, drop, length-append}
 use Rattle.calculus.specs.declared.Refusal.{Refusal}
 use Rattle.calculus.specs.declared.Refusal.TheVariants as refusal
@@ -18,16 +19,14 @@ use Rattle.calculus.proofs.Columns.{size_behind, spine_length, spine_place}
 use Rattle.table.specs.Nodes.{Stands}
 use Rattle.table.specs.Checks.{checked_number}
 use Rattle.table.specs.declared.Checked.{Checked}
-use Rattle.table.specs.declared.Checked.TheVariants.{Refused}
+use Rattle.table.specs.declared.Checked.TheVariants.{Admitted, Refused}
 use Rattle.table.proofs.Trees.{one_tree, see, moved, ends_in, own_part}
 use Rattle.table.proofs.Verdicts.{refuses_early, refuses_late, accepts_both, table_stands}
 use Rattle.column.specs.Sizes.{SizeAt}
 use Rattle.column.specs.Admissions.{ChecksWith}
 use Rattle.column.proofs.Locals.{column_sizes}
-use Rattle.column.proofs.Admissions.{HeldIn, refused_with}
+use Rattle.column.proofs.Admissions.{HeldIn, held_there, refused_with}
 use Rattle.threads.specs.Places.{ProgramAt, place_values, PlaceOf, from, missing, SpanOf}
-use Rattle.threads.specs.declared.Place.{Place}
-use Rattle.threads.specs.declared.Place.TheVariants.{From, Missing}
 
 -- a thread stands behind those before it
 pub behind_threads : {t : List ℕ} {x : Tree term} (before after : List (Tree term)) (i : ℕ) → Stands t i (program_of (before ++ (x ∷ after))) → Stands t (i + nodes_before before) x
@@ -82,7 +81,7 @@ module _ {n : ℕ} {table : Sheet} {count : ℕ} (a : HeldIn n table count) wher
   this_one {p} h = rw (one_tree p a.program_there h (table_stands a.table_of)) a.table_of
 
   -- there are not so many threads
-  pub thread_missing : {k : ℕ} {r : Place} → r ≡ Missing → PlaceOf table.numbers k (place_values r) → Refuses (thread_refusals n table count k) refusal.NoThread
+  pub thread_missing : {k : ℕ} {r : Option ℕ} → r ≡ None → PlaceOf table.numbers k (place_values r) → Refuses (thread_refusals n table count k) refusal.NoThread
   thread_missing {k} e w = go w (ap (λ p. (place_values p).refusal) e)
     where
       go : {v : Values} → PlaceOf table.numbers k v → v.refusal ≡ 10 → Refuses (thread_refusals n table count k) refusal.NoThread
@@ -107,8 +106,12 @@ module _ {n : ℕ} {table : Sheet} {count : ℕ} (a : HeldIn n table count) wher
   there_at (missing p h l) q = absurd (omega (arith, ap (λ (v : Values). v.refusal) q))
 
   -- the thread is there
-  pub thread_there : {k i : ℕ} {r : Place} → r ≡ From i → PlaceOf table.numbers k (place_values r) → ThreadAt n table count k i
+  pub thread_there : {k i : ℕ} {r : Option ℕ} → r ≡ Some i → PlaceOf table.numbers k (place_values r) → ThreadAt n table count k i
   thread_there q w = there_at w (ap place_values q)
+
+-- the thread that the place tells, of a table that the check admits
+pub thread_held : {n : ℕ} {table : Sheet} {count k i : ℕ} {r : Checked} {q : Option ℕ} → r ≡ Admitted → ChecksWith n table count (checked_number r) → q ≡ Some i → PlaceOf table.numbers k (place_values q) → ThreadAt n table count k i
+thread_held a h e p = thread_there (held_there a h) e p
 
 -- so many nodes from the node i on are the part of the thread k
 pub record PartIn (n : ℕ) (table : Sheet) (count k i many : ℕ) : Type 0 where

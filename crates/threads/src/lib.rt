@@ -1,10 +1,10 @@
 // Where threads stand, and the call that hands a thread's part back.
 #![tactic(auto)]
 
-ghost use Rattle.std.specs.Prelude.{length};
+ghost use Rattle.std.specs.Prelude.{◌≡◌, ◌+◌, ◌*◌, ◌≤◌, length};
 ghost use Rattle.calculus.specs.Sheets.{sheet};
 ghost use Rattle.table.specs.Checks.{in_force};
-ghost use Rattle.threads.specs.Places.{ProgramAt, place_values, PlaceOf, SpanOf, ThreadPart};
+ghost use Rattle.threads.specs.Places.{thread_behind, ProgramAt, place_values, PlaceOf, SpanOf, ThreadPart};
 
 use column::check::check_with;
 use column::sizes::size_at;
@@ -12,42 +12,39 @@ use table::Checked;
 use table::kinds::EMPTY;
 use table::nodes::node_at;
 
-// Where a thread stands: its first node.
-#[derive(Clone, Copy)]
-pub enum Place {
-    From(usize),
-    Missing,
-}
-
-// A part of a table: its first number, and how many numbers.
+/// A part of a table: its first number, and how many numbers.
 #[derive(Clone, Copy)]
 pub struct Span {
     pub start: usize,
     pub length: usize,
 }
 
-// Where thread k of the program at the front stands: each thread before it is passed by one jump.
-pub fn place_of(t: &[u16], column: &[u16], k: usize) -> Place
+/// The first node of the thread whose alternative node is at `at`; none where the empty node ends the program.
+fn thread_behind(t: &[u16], at: usize) -> Option<usize>
+    requires { 2 * at + 2 ≤ length t.now }
+    ensures { result ≡ thread_behind t.now at }
+{
+    if node_at(t, at).kind == EMPTY {
+        return None;
+    }
+    Some(at + 1)
+}
+
+/// Where thread k of the program at the front stands: its first node. Each thread before it is passed by one jump.
+#[tactic(auto, using(crate::proofs::PlaceOfFacts::placing))]
+pub fn place_of(t: &[u16], column: &[u16], k: usize) -> Option<usize>
     requires { ProgramAt t.now column.now }
     ensures { PlaceOf t.now k (place_values result) }
 {
-    let mut at: usize = 0;
-    let mut i: usize = 0;
-    loop {
-        let n = node_at(t, at);
-        if n.kind == EMPTY {
-            return Place::Missing;
-        }
-        let start = at + 1;
-        if i == k {
-            return Place::From(start);
-        }
+    let mut at = 0;
+    for _ in 0..k {
+        let start = thread_behind(t, at)?;
         at = start + size_at(column, start);
-        i += 1;
     }
+    thread_behind(t, at)
 }
 
-// Where the thread's own part of the table is, its term's nodes without the alternative node. Empty exactly when the standing call refuses.
+/// Where the thread's own part of the table is, its term's nodes without the alternative node. Empty exactly when the standing call refuses.
 pub fn span_of(
     t: &[u16],
     column: &[u16],
@@ -58,17 +55,15 @@ pub fn span_of(
 ) -> Span
     ensures { SpanOf (in_force limit (length scratch.old)) (sheet t.now column.now) count k result.start result.length }
 {
-    let Checked::Admitted = check_with(t, column, count, limit, scratch) else {
-        return Span {
-            start: 0,
-            length: 0,
-        };
+    let nothing = Span {
+        start: 0,
+        length: 0,
     };
-    let Place::From(start) = place_of(t, column, k) else {
-        return Span {
-            start: 0,
-            length: 0,
-        };
+    let Checked::Admitted = check_with(t, column, count, limit, scratch) else {
+        return nothing;
+    };
+    let Some(start) = place_of(t, column, k) else {
+        return nothing;
     };
     Span {
         start: 2 * start,
@@ -76,7 +71,7 @@ pub fn span_of(
     }
 }
 
-// The thread's own part of the table, no copy.
+/// The thread's own part of the table, no copy.
 pub fn thread<'a>(
     t: &'a [u16],
     column: &[u16],
@@ -87,8 +82,6 @@ pub fn thread<'a>(
 ) -> &'a [u16]
     ensures { ThreadPart (in_force limit (length scratch.old)) (sheet t.now column.now) count k t.entry.ref_ptr.0 t.entry.ref_ptr.1 result.ref_ptr.0 result.ref_ptr.1 result.now }
 {
-    let span = span_of(t, column, count, k, limit, scratch);
-    let start = span.start;
-    let end = start + span.length;
-    &t[start..end]
+    let Span { start, length } = span_of(t, column, count, k, limit, scratch);
+    &t[start..start + length]
 }

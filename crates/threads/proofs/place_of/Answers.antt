@@ -1,21 +1,14 @@
--- `threads::place_of` meets its contract. The loop's invariant: i threads are passed, at most k, and the rest of the program stands at the node `at`.
-use Prim.Native.Nat.{◌+◌}
-use Rattle.threads.proofs.PlaceOfFacts.{Placing, start, none_left, found, sized, past}
+-- `threads::place_of` meets its contract: where no thread is left, there is none of the number.
+use mathlib.Core.Path.{sym}
+use native.Mathlib.Omega.{arith}
+use Rattle.threads.proofs.PlaceOfFacts.{none_left, sized, placed}
 use Rattle.threads.proofs.place_of.Goals as goal
 
-pub loop-k-init : goal.loop-k-init
-loop-k-init c = search start
-
-pub returns-then-n-eq-EMPTY : goal.returns-then-n-eq-EMPTY
-returns-then-n-eq-EMPTY c = search none_left
-
-pub returns-then-i-k : goal.returns-then-i-k
-returns-then-i-k c = found c.loop-k.invariant c.node_at-n.ensures c.if-n-eq-EMPTY.false c.if-i-k.true
+pub returns-in_err-start : goal.returns-in_err-start
+returns-in_err-start c = rw c.from_residual.ensures (none_left c.loop.invariant (sym c.in_err-start.ensures) (omega arith))
 
 pub size_at-requires : goal.size_at-requires
-size_at-requires c = (sized c.loop-k.invariant c.node_at-n.ensures c.if-n-eq-EMPTY.false).0
+size_at-requires c = sized c.loop.invariant (sym c.in_ok-start.ensures)
 
-pub loop-k-preserved : goal.loop-k-preserved
-loop-k-preserved c =
-    let again : let l = c.loop-k in let a = c.args in Placing a.t.now a.column.now a.k (l.at + 1 + c.size_at.result) (l.i + 1) = past c.loop-k.invariant c.node_at-n.ensures c.if-n-eq-EMPTY.false c.size_at.ensures c.if-i-k.false in
-    again
+pub returns : goal.returns
+returns c = placed c.loop.invariant (omega arith) c.thread_behind-2.ensures
