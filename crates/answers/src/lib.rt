@@ -1,15 +1,9 @@
 // Answers as C sees them: structs of numbers. What the fields mean stands in include/mespindro.h.
 #![tactic(auto)]
 
-ghost use Rattle.std.specs.Prelude.{◌≡◌};
-ghost use Rattle.calculus.specs.Answers.{counted_values, ran_values, stepped_values, stood_values};
-ghost use Rattle.answers.specs.Structs.{count_values, move_values, stand_values, stop_values};
+use calculus::{Counts, Ran, Refusal, Standing, Stepped};
 
-use calculus::{
-    Counted, Counts, Ran, Stepped, Stood, reason_code, refusal_number, rule_code, standing_code,
-};
-
-// How many nodes or bytes stand at the front of the output; 0 and a refusal's number.
+/// How many nodes or bytes stand at the front of the output; 0 and a refusal's number.
 #[repr(C)]
 #[derive(Clone, Copy)]
 pub struct Count {
@@ -17,9 +11,9 @@ pub struct Count {
     pub refusal: u16,
 }
 
-// What a step made: the nodes of the new program, by which rule, in which thread; zeros and a refusal's number.
+/// What a step made: the nodes of the new program, by which rule, in which thread; zeros and a refusal's number.
 #[repr(C)]
-#[derive(Clone, Copy)]
+#[derive(Clone, Copy, Default)]
 pub struct Move {
     pub nodes: usize,
     pub thread: u32,
@@ -27,9 +21,9 @@ pub struct Move {
     pub refusal: u16,
 }
 
-// Why a run stopped, the nodes it left, the steps taken and how many each rule made; zeros and a refusal's number.
+/// Why a run stopped, the nodes it left, the steps taken and how many each rule made; zeros and a refusal's number.
 #[repr(C)]
-#[derive(Clone, Copy)]
+#[derive(Clone, Copy, Default)]
 pub struct Stop {
     pub nodes: usize,
     pub steps: u32,
@@ -38,7 +32,7 @@ pub struct Stop {
     pub refusal: u16,
 }
 
-// How a thread stands; or a refusal's number.
+/// How a thread stands; or a refusal's number.
 #[repr(C)]
 #[derive(Clone, Copy)]
 pub struct Stand {
@@ -46,7 +40,7 @@ pub struct Stand {
     pub refusal: u16,
 }
 
-// A part of the table: its first number, and how many numbers.
+/// A part of the table: its first number, and how many numbers.
 #[repr(C)]
 #[derive(Clone, Copy)]
 pub struct Part {
@@ -54,79 +48,88 @@ pub struct Part {
     pub length: usize,
 }
 
-pub fn count_of(x: Counted) -> Count
-    ensures { count_values result ≡ counted_values x }
-{
-    match x {
-        Counted::Count(n) => Count {
-            count: n,
-            refusal: 0,
-        },
-        Counted::Refused(r) => Count {
-            count: 0,
-            refusal: refusal_number(r),
-        },
-    }
-}
+impl From<Result<usize, Refusal>> for Count {
+    ghost use Rattle.std.specs.Prelude.{◌≡◌};
+    ghost use Rattle.calculus.specs.Answers.{counted_values};
+    ghost use Rattle.answers.specs.Structs.{count_values};
 
-pub fn move_of(x: Stepped) -> Move
-    ensures { move_values result ≡ stepped_values x }
-{
-    match x {
-        Stepped::Made(nodes, rule, thread) => Move {
-            nodes,
-            thread,
-            rule: rule_code(rule),
-            refusal: 0,
-        },
-        Stepped::Refused(r) => Move {
-            nodes: 0,
-            thread: 0,
-            rule: 0,
-            refusal: refusal_number(r),
-        },
-    }
-}
+    ghost from_gives = { λ x r. count_values r ≡ counted_values x };
 
-pub fn stop_of(x: Ran) -> Stop
-    ensures { stop_values result ≡ ran_values x }
-{
-    match x {
-        Ran::Stopped(reason, nodes, steps, counts) => Stop {
-            nodes,
-            steps,
-            counts,
-            reason: reason_code(reason),
-            refusal: 0,
-        },
-        Ran::Refused(r) => Stop {
-            nodes: 0,
-            steps: 0,
-            counts: Counts {
-                alloc: 0,
-                beta: 0,
-                fresh: 0,
-                guard: 0,
-                unif: 0,
-                fail: 0,
+    fn from(x: Result<usize, Refusal>) -> Count {
+        match x {
+            Ok(count) => Count { count, refusal: 0 },
+            Err(r) => Count {
+                count: 0,
+                refusal: r.number(),
             },
-            reason: 0,
-            refusal: refusal_number(r),
-        },
+        }
     }
 }
 
-pub fn stand_of(x: Stood) -> Stand
-    ensures { stand_values result ≡ stood_values x }
-{
-    match x {
-        Stood::Stands(s) => Stand {
-            standing: standing_code(s),
-            refusal: 0,
-        },
-        Stood::Refused(r) => Stand {
-            standing: 0,
-            refusal: refusal_number(r),
-        },
+impl From<Result<Stepped, Refusal>> for Move {
+    ghost use Rattle.std.specs.Prelude.{◌≡◌};
+    ghost use Rattle.calculus.specs.Answers.{stepped_values};
+    ghost use Rattle.answers.specs.Structs.{move_values};
+
+    ghost from_gives = { λ x r. move_values r ≡ stepped_values x };
+
+    fn from(x: Result<Stepped, Refusal>) -> Move {
+        match x {
+            Ok(made) => Move {
+                nodes: made.nodes,
+                thread: made.thread,
+                rule: made.rule.code(),
+                refusal: 0,
+            },
+            Err(r) => Move {
+                refusal: r.number(),
+                ..Move::default()
+            },
+        }
+    }
+}
+
+impl From<Result<Ran, Refusal>> for Stop {
+    ghost use Rattle.std.specs.Prelude.{◌≡◌};
+    ghost use Rattle.calculus.specs.Answers.{ran_values};
+    ghost use Rattle.answers.specs.Structs.{stop_values};
+
+    ghost from_gives = { λ x r. stop_values r ≡ ran_values x };
+
+    fn from(x: Result<Ran, Refusal>) -> Stop {
+        match x {
+            Ok(end) => Stop {
+                nodes: end.nodes,
+                steps: end.steps,
+                counts: end.counts,
+                reason: end.reason.code(),
+                refusal: 0,
+            },
+            Err(r) => Stop {
+                refusal: r.number(),
+                ..Stop::default()
+            },
+        }
+    }
+}
+
+impl From<Result<Standing, Refusal>> for Stand {
+    ghost use Rattle.std.specs.Prelude.{◌≡◌};
+    ghost use Rattle.calculus.specs.Answers.{stood_values};
+    ghost use Rattle.answers.specs.Structs.{stand_values};
+
+    ghost from_gives = { λ x r. stand_values r ≡ stood_values x };
+
+    fn from(x: Result<Standing, Refusal>) -> Stand {
+        match x {
+            Ok(standing) => Stand {
+                standing: standing.code(),
+                refusal: 0,
+            },
+            Err(r) => Stand {
+                standing: 0,
+                refusal: r.number(),
+            },
+        }
     }
 }

@@ -7,13 +7,13 @@ ghost use Rattle.threads.specs.Places.{SpanOf};
 ghost use Rattle.mespindro.specs.Limit.{limit};
 ghost use Rattle.answers.specs.Structs.{count_values, move_values, stand_values, stop_values};
 
-use answers::{Count, Move, Part, Stand, Stop, count_of, move_of, stand_of, stop_of};
+use answers::{Count, Move, Part, Stand, Stop};
 
 #[unsafe(no_mangle)]
 pub extern "C" fn mespindro_read(text: &[u8], out: &mut [u16], column: &mut [u16]) -> Count
     ensures { Reads limit text.now (sheet out.old column.old) (count_values result) (sheet out.new column.new) }
 {
-    count_of(mespindro::read(text, out, column))
+    mespindro::read(text, out, column).into()
 }
 
 #[unsafe(no_mangle)]
@@ -25,7 +25,7 @@ pub extern "C" fn mespindro_write(
 ) -> Count
     ensures { Writes limit (sheet table.now column.now) count out.old (count_values result) out.new }
 {
-    count_of(mespindro::write(table, column, count, out))
+    mespindro::write(table, column, count, out).into()
 }
 
 #[unsafe(no_mangle)]
@@ -38,7 +38,7 @@ pub extern "C" fn mespindro_step(
 ) -> Move
     ensures { StepsInto limit (sheet table.now column.now) count (sheet out.old out_column.old) (move_values result) (sheet out.new out_column.new) }
 {
-    move_of(mespindro::step(table, column, count, out, out_column))
+    mespindro::step(table, column, count, out, out_column).into()
 }
 
 #[unsafe(no_mangle)]
@@ -52,17 +52,17 @@ pub extern "C" fn mespindro_run(
 ) -> Stop
     ensures { RunsWith limit (sheet table.old column.old) count (sheet work.old work_column.old) most (stop_values result) (sheet table.new column.new) (sheet work.new work_column.new) }
 {
-    stop_of(mespindro::run(table, column, count, work, work_column, most))
+    mespindro::run(table, column, count, work, work_column, most).into()
 }
 
 #[unsafe(no_mangle)]
 pub extern "C" fn mespindro_standing(table: &[u16], column: &[u16], count: usize, k: usize) -> Stand
     ensures { StandsAt limit (sheet table.now column.now) count k (stand_values result) }
 {
-    stand_of(mespindro::standing(table, column, count, k))
+    mespindro::standing(table, column, count, k).into()
 }
 
-// Where the thread call's part begins and how long it is: C gets no reference back.
+/// Where the thread call's part begins and how long it is: C gets no reference back.
 #[unsafe(no_mangle)]
 pub extern "C" fn mespindro_thread(table: &[u16], column: &[u16], count: usize, k: usize) -> Part
     ensures { SpanOf limit (sheet table.now column.now) count k result.start result.length }

@@ -1,40 +1,20 @@
 -- Bytes that are stored one behind the other, at a place of the output and at its front.
 use mathlib.Core.Path.{◌≡◌, refl, sym, ap, ◌∙◌}
 use mathlib.Core.List.{List, [], ◌++◌, append_assoc, append-nil}
-use Prim.Native.Nat.{ℕ, ◌+◌, ◌-◌, ◌≤◌, ◌<◌}
-use native.Mathlib.Numerals.{add-one}
+use Prim.Native.Nat.{ℕ, ◌+◌, ◌-◌, ◌≤◌}
 use native.Mathlib.Omega.{arith}
-use lib.ListN.{length, get_or, take, drop, set, length-set, length-take, length-drop, drop_of_length-le}
-use lib.Seq.{sets, sets-eq, take-suc, take_all, length-take-le, length-sets, drop-drop}
+use lib.ListN.{length, take, drop, length-drop, drop_of_length-le}
+use lib.Seq.{sets, sets-eq, take_all, length-take-le, length-sets, drop-drop}
+use borrow.Rule.Slice.PartMut.{put_mid}
 use Rattle.calculus.specs.Calls.{front}
 use Rattle.writing.specs.Writer.{BytesFit, Wrote}
-use Rattle.writing.proofs.Written.{sets_append}
 
--- While bytes are written one by one: the first i of them stand there.
-pub record Filling (out₀ : List ℕ) (to : ℕ) (b out : List ℕ) (i : ℕ) : Type 0 where
-  pub low : i ≤ length b
-  pub is : out ≡ sets out₀ to (take i b)
-  pub same : length out ≡ length out₀
-  pub fits : to + length b ≤ length out₀
-
--- before the first there are none
-pub filling_none : {out : List ℕ} {to : ℕ} {b : List ℕ} → BytesFit out to b → Filling out to b out 0
-filling_none h = record { low = omega arith; is = refl; same = refl; fits = h.fits }
-
--- one more
-pub filling_more : {out₀ : List ℕ} {to : ℕ} {b out : List ℕ} {i : ℕ} → Filling out₀ to b out i → i < length b → Filling out₀ to b (set out (to + i) (get_or b i 0)) (i + 1)
-filling_more {out₀} {to} {b} {out} {i} h l =
-    let e : length (take i b) ≡ i = length-take i b ∙ omega arith in
-    record {
-      low = omega arith;
-      is = rw (h.is, add-one, take-suc b i 0 l, sets_append, e);
-      same = length-set out (to + i) (get_or b i 0) ∙ h.same;
-      fits = h.fits;
-    }
-
--- behind the last all of them are written
-pub filling_all : {out₀ : List ℕ} {to : ℕ} {b out : List ℕ} {i : ℕ} → Filling out₀ to b out i → length b ≤ i → Wrote out₀ out to (to + i) b
-filling_all {out₀} {to} {b} {out} {i} h l = record { is = rw (take_all i b l) at h.is; same_length = h.same; next_is = omega arith }
+-- bytes that are copied over a part of the output are written there
+pub copied : {out now : List ℕ} {to : ℕ} {b : List ℕ} → BytesFit out to b → now ≡ b → Wrote out (put_mid to (to + length b - to) out now) to (to + length b) b
+copied {out} {now} {to} {b} h e =
+    let long : to + length b - to ≡ length b = omega arith in
+    let is : put_mid to (to + length b - to) out now ≡ sets out to b = rw (e, long, drop-drop, sets-eq b out to h.fits) (sym (append_assoc (take to out) b (drop (to + length b) out))) in
+    record { is = is; same_length = ap length is ∙ length-sets out to b; next_is = refl }
 
 -- what is written at the front fills it
 pub wrote_front : {out after : List ℕ} {next : ℕ} {b : List ℕ} → Wrote out after 0 next b → next ≤ length out → after ≡ front b out

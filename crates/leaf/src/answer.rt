@@ -21,6 +21,7 @@ fn read_full<R: Read>(from: &mut R, buffer: &mut [u8]) -> io::Result<usize>
     ensures end { IfOk result (λ n. n < length buffer.new → IsAtEnd (R.remaining from.new)) }
 {
     let mut at: usize = 0;
+    // a read says how far it came, and the library's `read_exact` too little of what it read before an error
     while at < buffer.len() {
         let n = from.read(&mut buffer[at..])?;
         if n == 0 {
@@ -37,6 +38,7 @@ fn write_full<W: Write>(to: &mut W, bytes: &[u8]) -> io::Result<()>
     ensures err { OnErr result (AppendsFront (W.contents to.old) (W.contents to.new) bytes.now) }
 {
     let mut written: usize = 0;
+    // a write says how far it came, and the library's `write_all` nothing of what it wrote before an error
     while written < bytes.len() {
         let n = to.write(&bytes[written..])?;
         if n == 0 {

@@ -7,7 +7,7 @@ ghost use Rattle.small.specs.Limit.{small_limit};
 ghost use Rattle.leaf.specs.Reported.{longest, most, Reported, ReportedWhole};
 ghost use Rattle.leaf.specs.Written.{reason_atom, start_bytes, HoldsGood, Loaded, EndWritten, RunWritten};
 
-use calculus::{Counted, Ran, Reason, Refusal, refusal_number};
+use calculus::{Reason, Refusal};
 use small::{LIMIT, NUMBERS};
 use writing::write::{put, put_number};
 
@@ -18,12 +18,9 @@ fn put_all(out: &mut [u8], to: usize, b: &[u8]) -> usize
     requires { BytesFit out.old to b.now }
     ensures { Wrote out.old out.new to result b.now }
 {
-    let mut i: usize = 0;
-    while i < b.len() {
-        out[to + i] = b[i];
-        i += 1;
-    }
-    to + i
+    let end = to + b.len();
+    out[to..end].copy_from_slice(b);
+    end
 }
 
 // The report of a refusal.
@@ -32,7 +29,7 @@ fn put_refusal(r: Refusal, out: &mut [u8]) -> usize
     ensures { Wrote out.old out.new 0 result (refusal_report r) }
 {
     let a = put_all(out, 0, b"(7:refused");
-    let b = put_number(out, a, refusal_number(r));
+    let b = put_number(out, a, r.number());
     put(out, b, b')')
 }
 
@@ -73,9 +70,9 @@ fn put_end(
 {
     let at = put_start(reason, steps, out);
     match small::write(table, column, nodes, &mut out[at..]) {
-        Counted::Count(n) => put(out, at + n, b')'),
+        Ok(n) => put(out, at + n, b')'),
         // cannot be: the end of a run is written
-        Counted::Refused(r) => put_refusal(r, out),
+        Err(r) => put_refusal(r, out),
     }
 }
 
@@ -95,16 +92,16 @@ fn put_run(count: usize, table: &mut [u16], column: &mut [u16], out: &mut [u8]) 
         &mut work_column,
         STEP_LIMIT,
     ) {
-        Ran::Stopped(reason, nodes, steps, _) => put_end(
-            reason,
-            steps as u16,
+        Ok(end) => put_end(
+            end.reason,
+            end.steps as u16,
             table,
             column,
-            nodes,
+            end.nodes,
             out,
         ),
         // cannot be: what was read is run
-        Ran::Refused(r) => put_refusal(r, out),
+        Err(r) => put_refusal(r, out),
     }
 }
 
@@ -116,12 +113,12 @@ fn report(text: &[u8], out: &mut [u8]) -> usize
     let mut table = [0u16; NUMBERS];
     let mut column = [0u16; LIMIT];
     match operator::read(text, &mut table, &mut column) {
-        Counted::Count(n) => put_run(n, &mut table, &mut column, out),
-        Counted::Refused(r) => put_refusal(r, out),
+        Ok(n) => put_run(n, &mut table, &mut column, out),
+        Err(r) => put_refusal(r, out),
     }
 }
 
-// The report of the whole input, of which the first `n` bytes of the buffer are as much as it holds.
+/// The report of the whole input, of which the first `n` bytes of the buffer are as much as it holds.
 pub fn report_input(buffer: &[u8], n: usize, out: &mut [u8]) -> usize
     requires small_limit_in_bounds { 12 * small_limit < length buffer.now }
     requires n_in_bounds { n ≤ length buffer.now }

@@ -7,7 +7,7 @@ ghost use Rattle.calculus.specs.Sheets.{sheet, holds};
 ghost use Rattle.small.specs.Limit.{small_limit};
 ghost use Rattle.operator.specs.Operator.{ReadsOperators, TurnedAway};
 
-use calculus::{Counted, Refusal};
+use calculus::Refusal;
 use table::check::none_allocated;
 
 // The refusal of an operator's text that the reader refuses: what is incoherent holds a closure.
@@ -20,19 +20,15 @@ fn turned_away(r: Refusal) -> Refusal
     }
 }
 
-// Reads an operator's text into a table and its column that hold whatever is within the limit.
-pub fn read(text: &[u8], table: &mut [u16], column: &mut [u16]) -> Counted
+/// Reads an operator's text into a table and its column that hold whatever is within the limit.
+pub fn read(text: &[u8], table: &mut [u16], column: &mut [u16]) -> Result<usize, Refusal>
     requires { small_limit ≤ holds (sheet table.old column.old) }
     ensures { ReadsOperators small_limit text.now (sheet table.old column.old) (counted_values result) (sheet table.new column.new) }
 {
-    match small::read(text, table, column) {
-        Counted::Count(n) => {
-            if none_allocated(table, n) {
-                Counted::Count(n)
-            } else {
-                Counted::Refused(Refusal::Closure)
-            }
-        }
-        Counted::Refused(r) => Counted::Refused(turned_away(r)),
+    let count = small::read(text, table, column).map_err(turned_away)?;
+    if none_allocated(table, count) {
+        Ok(count)
+    } else {
+        Err(Refusal::Closure)
     }
 }

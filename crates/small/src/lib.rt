@@ -7,22 +7,22 @@ ghost use Rattle.calculus.specs.Calls.{Reads, RunsWith, StandsAt, StepsInto, Wri
 ghost use Rattle.threads.specs.Places.{ThreadPart};
 ghost use Rattle.small.specs.Limit.{small_limit};
 
-use calculus::{Counted, Ran, Stepped, Stood};
+use calculus::{Ran, Refusal, Standing, Stepped};
 
-// The nodes of the largest program, and the entries of its column.
+/// The nodes of the largest program, and the entries of its column.
 pub const LIMIT: usize = 2048;
 
-// The numbers of a table of that many nodes, and the links of a thread.
+/// The numbers of a table of that many nodes, and the links of a thread.
 pub const NUMBERS: usize = 2 * LIMIT;
 
-// The bytes of the longest text.
+/// The bytes of the longest text.
 pub const TEXT: usize = 12 * LIMIT;
 
-// What checking a table needs.
+/// What checking a table needs.
 pub const SCRATCH: usize = LIMIT + 2;
 
-// Reads a text into a table and its column: the nodes at its front, their trees' sizes at the column's; or 2 to 9.
-pub fn read(text: &[u8], out: &mut [u16], column: &mut [u16]) -> Counted
+/// Reads a text into a table and its column: the nodes at its front, their trees' sizes at the column's; or 2 to 9.
+pub fn read(text: &[u8], out: &mut [u16], column: &mut [u16]) -> Result<usize, Refusal>
     ensures { Reads small_limit text.now (sheet out.old column.old) (counted_values result) (sheet out.new column.new) }
 {
     let mut build = [0u16; NUMBERS];
@@ -39,23 +39,23 @@ pub fn read(text: &[u8], out: &mut [u16], column: &mut [u16]) -> Counted
     )
 }
 
-// Writes the text of the program in a table: its bytes at the front of the output, or 1, 14, 6, 8, 9.
-pub fn write(table: &[u16], column: &[u16], count: usize, out: &mut [u8]) -> Counted
+/// Writes the text of the program in a table: its bytes at the front of the output, or 1, 14, 6, 8, 9.
+pub fn write(table: &[u16], column: &[u16], count: usize, out: &mut [u8]) -> Result<usize, Refusal>
     ensures { Writes small_limit (sheet table.now column.now) count out.old (counted_values result) out.new }
 {
     let mut scratch = [0u16; SCRATCH];
     writing::store::write(table, column, count, out, LIMIT, &mut scratch)
 }
 
-// Makes a single step of the program in a table: the new program's nodes at the front of the output and their trees' sizes at the front of its column,
-// the rule and the thread; or 1, 14, 6, 7, 8, 9, 11.
+/// Makes a single step of the program in a table: the new program's nodes at the front of the output and their trees' sizes at the front of its column,
+/// the rule and the thread; or 1, 14, 6, 7, 8, 9, 11.
 pub fn step(
     table: &[u16],
     column: &[u16],
     count: usize,
     out: &mut [u16],
     out_column: &mut [u16],
-) -> Stepped
+) -> Result<Stepped, Refusal>
     ensures { StepsInto small_limit (sheet table.now column.now) count (sheet out.old out_column.old) (stepped_values result) (sheet out.new out_column.new) }
 {
     let mut links = [0u16; NUMBERS];
@@ -65,8 +65,8 @@ pub fn step(
     )
 }
 
-// Runs the program in a table for at most `most` steps: why it stopped, the nodes it left in the table (the sizes of their trees in the column), the steps
-// taken and how many each rule made; or 1, 14, 6, 8, 9.
+/// Runs the program in a table for at most `most` steps: why it stopped, the nodes it left in the table (the sizes of their trees in the column), the steps
+/// taken and how many each rule made; or 1, 14, 6, 8, 9.
 pub fn run(
     table: &mut [u16],
     column: &mut [u16],
@@ -74,7 +74,7 @@ pub fn run(
     work: &mut [u16],
     work_column: &mut [u16],
     most: u32,
-) -> Ran
+) -> Result<Ran, Refusal>
     ensures { RunsWith small_limit (sheet table.old column.old) count (sheet work.old work_column.old) most (ran_values result) (sheet table.new column.new) (sheet work.new work_column.new) }
 {
     let mut links = [0u16; NUMBERS];
@@ -92,15 +92,15 @@ pub fn run(
     )
 }
 
-// How a thread stands, or 1, 14, 6, 8, 10.
-pub fn standing(table: &[u16], column: &[u16], count: usize, k: usize) -> Stood
+/// How a thread stands, or 1, 14, 6, 8, 10.
+pub fn standing(table: &[u16], column: &[u16], count: usize, k: usize) -> Result<Standing, Refusal>
     ensures { StandsAt small_limit (sheet table.now column.now) count k (stood_values result) }
 {
     let mut scratch = [0u16; SCRATCH];
     standings::standing(table, column, count, k, LIMIT, &mut scratch)
 }
 
-// The part of the table that is a thread's own, no copy; empty exactly when the standing call refuses.
+/// The part of the table that is a thread's own, no copy; empty exactly when the standing call refuses.
 pub fn thread<'a>(table: &'a [u16], column: &[u16], count: usize, k: usize) -> &'a [u16]
     ensures { ThreadPart small_limit (sheet table.now column.now) count k table.entry.ref_ptr.0 table.entry.ref_ptr.1 result.ref_ptr.0 result.ref_ptr.1 result.now }
 {

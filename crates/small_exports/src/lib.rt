@@ -7,13 +7,13 @@ ghost use Rattle.threads.specs.Places.{SpanOf};
 ghost use Rattle.small.specs.Limit.{small_limit};
 ghost use Rattle.answers.specs.Structs.{count_values, move_values, stand_values, stop_values};
 
-use answers::{Count, Move, Part, Stand, Stop, count_of, move_of, stand_of, stop_of};
+use answers::{Count, Move, Part, Stand, Stop};
 
 #[unsafe(no_mangle)]
 pub extern "C" fn mespindro_small_read(text: &[u8], out: &mut [u16], column: &mut [u16]) -> Count
     ensures { Reads small_limit text.now (sheet out.old column.old) (count_values result) (sheet out.new column.new) }
 {
-    count_of(small::read(text, out, column))
+    small::read(text, out, column).into()
 }
 
 #[unsafe(no_mangle)]
@@ -25,7 +25,7 @@ pub extern "C" fn mespindro_small_write(
 ) -> Count
     ensures { Writes small_limit (sheet table.now column.now) count out.old (count_values result) out.new }
 {
-    count_of(small::write(table, column, count, out))
+    small::write(table, column, count, out).into()
 }
 
 #[unsafe(no_mangle)]
@@ -38,7 +38,7 @@ pub extern "C" fn mespindro_small_step(
 ) -> Move
     ensures { StepsInto small_limit (sheet table.now column.now) count (sheet out.old out_column.old) (move_values result) (sheet out.new out_column.new) }
 {
-    move_of(small::step(table, column, count, out, out_column))
+    small::step(table, column, count, out, out_column).into()
 }
 
 #[unsafe(no_mangle)]
@@ -52,7 +52,7 @@ pub extern "C" fn mespindro_small_run(
 ) -> Stop
     ensures { RunsWith small_limit (sheet table.old column.old) count (sheet work.old work_column.old) most (stop_values result) (sheet table.new column.new) (sheet work.new work_column.new) }
 {
-    stop_of(small::run(table, column, count, work, work_column, most))
+    small::run(table, column, count, work, work_column, most).into()
 }
 
 #[unsafe(no_mangle)]
@@ -64,10 +64,10 @@ pub extern "C" fn mespindro_small_standing(
 ) -> Stand
     ensures { StandsAt small_limit (sheet table.now column.now) count k (stand_values result) }
 {
-    stand_of(small::standing(table, column, count, k))
+    small::standing(table, column, count, k).into()
 }
 
-// Where the thread call's part begins and how long it is: C gets no reference back.
+/// Where the thread call's part begins and how long it is: C gets no reference back.
 #[unsafe(no_mangle)]
 pub extern "C" fn mespindro_small_thread(
     table: &[u16],

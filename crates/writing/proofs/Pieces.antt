@@ -11,6 +11,9 @@ use Rattle.table.specs.Nodes.{NodeIs, Stands}
 use Rattle.table.proofs.Trees.{IsAlt, alt_at, program_at, one_tree, in_table}
 use Rattle.writing.specs.Writing.{RoomForText, CellsForText, TextWritten}
 use Rattle.writing.specs.Writer.{head_bytes, spelt, BytesFit, Wrote, Pushed, Piece, a_term, a_rest, closing, cell, spelt_all, StandAll, cells_for, Stacked, ToCome, Unwritten, InHand, Asked, Put}
+use Rattle.writing.specs.declared.write.Piece.{Piece as Kind}
+use Rattle.writing.specs.declared.write.Piece.TheVariants.{Rest}
+use Rattle.writing.specs.Cells.{code}
 use Rattle.writing.proofs.Written.{sets_append, wrote_none, wrote_more, bracketed_length, inner, TermNode, term_node, Parts, parts_at, members_alt, members_empty, text_is}
 
 -- The stack.
@@ -19,6 +22,12 @@ use Rattle.writing.proofs.Written.{sets_append, wrote_none, wrote_more, brackete
 kept : (stack after : List ℕ) (cells : ℕ) (l : List Piece) → ((i : ℕ) → i < cells → get_or after i 0 ≡ get_or stack i 0) → Stacked stack cells l → Stacked after cells l
 kept stack after cells [] f h = h
 kept stack after cells (x ∷ l) f h = (h.0, (h.1.0, (f h.0 (omega arith) ∙ h.1.1.0, kept stack after h.0 l (λ i g. f i (omega arith)) h.1.1.1)))
+
+-- a cell is one of three numbers
+cell_small : (x : Piece) → cell x ≤ 2
+cell_small (a_term x) = omega arith
+cell_small (a_rest p) = omega arith
+cell_small closing = omega arith
 
 -- a cell more, a piece more
 more : {stack after : List ℕ} {cells next : ℕ} (x : Piece) (l : List Piece) → Stacked stack cells l → Pushed stack after cells next (cell x) → Stacked after next (x ∷ l)
@@ -86,7 +95,7 @@ module _ {t last out stack : List ℕ} {at to cells : ℕ} where
       go [] e k = k.makes
       go (x ∷ l) s k = absurd (omega arith)
 
-  -- 0 is a term's cell, 2 a closing bracket's, any other that of a program's rest
+  -- 0 is a term's cell, 1 that of a program's rest, 2 a closing bracket's
   first_term : {c : ℕ} → c ≡ 0 → InHand c t last at out to stack cells → TermFirst t last at out to stack cells
   first_term e h = go h.piece h.others (sym e ∙ h.is) h.stacked h.to_come
     where
@@ -103,13 +112,13 @@ module _ {t last out stack : List ℕ} {at to cells : ℕ} where
       go (a_rest p) l e s k = absurd (omega arith)
       go closing l e s k = record { others = l; stacked = s; to_come = k }
 
-  first_rest : {c : ℕ} → (c ≡ 0 → ⊥) → (c ≡ 2 → ⊥) → InHand c t last at out to stack cells → RestFirst t last at out to stack cells
-  first_rest f g h = go h.piece h.others (λ e. f (h.is ∙ e)) (λ e. g (h.is ∙ e)) h.stacked h.to_come
+  first_rest : {c : ℕ} → c ≡ 1 → InHand c t last at out to stack cells → RestFirst t last at out to stack cells
+  first_rest e h = go h.piece h.others (sym e ∙ h.is) h.stacked h.to_come
     where
-      go : (x : Piece) (l : List Piece) → (cell x ≡ 0 → ⊥) → (cell x ≡ 2 → ⊥) → Stacked stack cells l → ToCome t last at out to stack (x ∷ l) → RestFirst t last at out to stack cells
-      go (a_term x) l f g s k = absurd (f refl)
-      go (a_rest p) l f g s k = record { rest = p; others = l; stacked = s; to_come = k }
-      go closing l f g s k = absurd (g refl)
+      go : (x : Piece) (l : List Piece) → 1 ≡ cell x → Stacked stack cells l → ToCome t last at out to stack (x ∷ l) → RestFirst t last at out to stack cells
+      go (a_term x) l e s k = absurd (omega arith)
+      go (a_rest p) l e s k = record { rest = p; others = l; stacked = s; to_come = k }
+      go closing l e s k = absurd (omega arith)
 
 -- A closing bracket.
 
@@ -133,10 +142,10 @@ module _ {t out stack : List ℕ} {c at to cells : ℕ} (e : c ≡ 2) where
 member_all : {p q : Tree program} {x : Tree term} → p ≡ alt x q → (l : List Piece) → spelt_all (a_rest p ∷ l) ≡ spelt_all (a_term x ∷ a_rest q ∷ l)
 member_all {q} {x} e l = rw (e, members_alt x q, append_assoc)
 
-module _ {t out stack : List ℕ} {c at to cells : ℕ} (u : c ≡ 0 → ⊥) (v : c ≡ 2 → ⊥) where
+module _ {t out stack : List ℕ} {at to cells : ℕ} {piece : Kind} (r : piece ≡ Rest) where
   -- it stands in the table
-  pub rest_inside : Asked c t at out to stack cells → 2 * at + 2 ≤ length t
-  rest_inside a = let f = first_rest u v a.in_hand in in_table f.to_come.stand.0
+  pub rest_inside : Asked (code piece) t at out to stack cells → 2 * at + 2 ≤ length t
+  rest_inside a = let f = first_rest (ap code r) a.in_hand in in_table f.to_come.stand.0
 
   module _ {k m : ℕ} (n : NodeIs t at k m) where
     module _ (z : k ≡ 0) where
@@ -145,19 +154,19 @@ module _ {t out stack : List ℕ} {c at to cells : ℕ} (u : c ≡ 0 → ⊥) (v
       ended f = program_at f.rest 0 (sym n.kind_is ∙ z) f.to_come.stand.0
 
       -- for which there is room
-      pub end_room : Asked c t at out to stack cells → BytesFit out to (41 ∷ [])
+      pub end_room : Asked (code piece) t at out to stack cells → BytesFit out to (41 ∷ [])
       end_room a =
-          let f = first_rest u v a.in_hand in
+          let f = first_rest (ap code r) a.in_hand in
           let w = simp length-append at f.to_come.room.fits in
           record { fits = omega arith }
 
       -- it is written
-      pub end_put : {after : List ℕ} {byte : ℕ} → Wrote out after to byte (41 ∷ []) → Put c t at out to stack cells after stack (at + 1) byte cells
+      pub end_put : {after : List ℕ} {byte : ℕ} → Wrote out after to byte (41 ∷ []) → Put (code piece) t at out to stack cells after stack (at + 1) byte cells
       unfolding nodes
       end_put w = record {
         later = omega arith;
         then_on = λ last h.
-            let f = first_rest u v h in
+            let f = first_rest (ap code r) h in
             let e = ended f in
             record {
               pieces = f.others;
@@ -171,15 +180,15 @@ module _ {t out stack : List ℕ} {c at to cells : ℕ} (u : c ≡ 0 → ⊥) (v
       member f = alt_at f.rest (λ e. z (n.kind_is ∙ e)) f.to_come.stand.0
 
       -- there is room on the stack for what follows its next member
-      pub rest_cell : Asked c t at out to stack cells → cells < length stack
-      rest_cell a = let f = first_rest u v a.in_hand in omega (arith, few stack cells f.others f.stacked, nodes_positive f.rest)
+      pub rest_cell : Asked (code piece) t at out to stack cells → cells < length stack
+      rest_cell a = let f = first_rest (ap code r) a.in_hand in omega (arith, few stack cells f.others f.stacked, nodes_positive f.rest)
 
       module _ {after : List ℕ} {next : ℕ} (p : Pushed stack after cells next 1) where
         -- its next member is a term to be written
-        member_in_hand : {last : List ℕ} → InHand c t last at out to stack cells → InHand 0 t last (at + 1) out to after next
+        member_in_hand : {last : List ℕ} → InHand (code piece) t last at out to stack cells → InHand 0 t last (at + 1) out to after next
         unfolding nodes
         member_in_hand h =
-            let f = first_rest u v h in
+            let f = first_rest (ap code r) h in
             let q = member f in
             let s = q.others in
             let e : nodes f.rest ≡ 1 + nodes q.thread + nodes s = omega (arith, ap nodes q.is) in
@@ -192,11 +201,11 @@ module _ {t out stack : List ℕ} {c at to cells : ℕ} (u : c ≡ 0 → ⊥) (v
             }
 
         -- that is asked for
-        pub member_asked : Asked c t at out to stack cells → Asked 0 t (at + 1) out to after next
+        pub member_asked : Asked (code piece) t at out to stack cells → Asked 0 t (at + 1) out to after next
         member_asked a = record { last = a.last; in_hand = member_in_hand a.in_hand }
 
         -- and done
-        pub member_put : {out' stack' : List ℕ} {node byte cells' : ℕ} → Put 0 t (at + 1) out to after next out' stack' node byte cells' → Put c t at out to stack cells out' stack' node byte cells'
+        pub member_put : {out' stack' : List ℕ} {node byte cells' : ℕ} → Put 0 t (at + 1) out to after next out' stack' node byte cells' → Put (code piece) t at out to stack cells out' stack' node byte cells'
         member_put g = record { later = g.later; then_on = λ last h. g.then_on last (member_in_hand h) }
 
 -- A term.
@@ -225,10 +234,6 @@ module _ {t out stack : List ℕ} {at to cells : ℕ} where
 
     parts_of : {last : List ℕ} (f : TermFirst t last at out to stack cells) → Parts t at f.tree k
     parts_of f = parts_at n f.tree f.to_come.stand.0
-
-    -- its kind is one of the kinds
-    pub kind_asked : Asked 0 t at out to stack cells → k < 11
-    kind_asked a = (node_of (first_term refl a.in_hand)).small
 
     -- there is room for what it begins with
     pub head_asked : Asked 0 t at out to stack cells → BytesFit out to (head_bytes k m)
@@ -319,14 +324,6 @@ module _ {t out stack : List ℕ} {at to cells : ℕ} where
                 };
           }
 
--- a term in hand, by its cell
-pub term_asked : {t out stack : List ℕ} {c at to cells : ℕ} → c ≡ 0 → Asked c t at out to stack cells → Asked 0 t at out to stack cells
-term_asked e a = rw e at a
-
--- and written
-pub term_put : {t out stack after stack' : List ℕ} {c at to cells node byte cells' : ℕ} → c ≡ 0 → Put 0 t at out to stack cells after stack' node byte cells' → Put c t at out to stack cells after stack' node byte cells'
-term_put e h = rw e h
-
 -- The whole text.
 
 -- what is left of the text since the output was `start` and the next byte `from`; the stack has kept its length
@@ -374,13 +371,17 @@ module _ {t start out stack : List ℕ} {from size node byte cells : ℕ} (h : T
     pub top_inside : cells - 1 < length stack
     top_inside = let u = h.left in omega (arith, few stack cells u.pieces u.stacked)
 
-    -- its piece is to be written
-    pub top_asked : Asked (get_or stack (cells - 1) 0) t node out byte stack (cells - 1)
-    top_asked = record { last = h.last; in_hand = top_in_hand h.left f }
+    module _ {c : ℕ} (q : get_or stack (cells - 1) 0 ≤ 2 → c ≡ get_or stack (cells - 1) 0) where
+      piece_in_hand : InHand c t h.last node out byte stack (cells - 1)
+      piece_in_hand = let u = top_in_hand h.left f in rw (q (rw u.is (cell_small u.piece))) u
 
-    -- and then what is left is less
-    pub text_next : {out' stack' : List ℕ} {node' byte' cells' : ℕ} → Put (get_or stack (cells - 1) 0) t node out byte stack (cells - 1) out' stack' node' byte' cells' → length out' ≡ length out → length stack' ≡ length stack → TextLeft t start from out' size stack' node' byte' cells'
-    text_next g e d = record { last = h.last; is = h.is; left = g.then_on h.last (top_in_hand h.left f); same = e ∙ h.same; same_size = d ∙ h.same_size }
+      -- its piece is to be written
+      pub top_asked : Asked c t node out byte stack (cells - 1)
+      top_asked = record { last = h.last; in_hand = piece_in_hand }
+
+      -- and then what is left is less
+      pub text_next : {out' stack' : List ℕ} {node' byte' cells' : ℕ} → Put c t node out byte stack (cells - 1) out' stack' node' byte' cells' → length out' ≡ length out → length stack' ≡ length stack → TextLeft t start from out' size stack' node' byte' cells'
+      text_next g e d = record { last = h.last; is = h.is; left = g.then_on h.last piece_in_hand; same = e ∙ h.same; same_size = d ∙ h.same_size }
 
   -- with no cell left the text is written
   pub text_put : {before : List ℕ} → Wrote before start 0 from (40 ∷ []) → cells ≤ 0 → TextWritten t before out

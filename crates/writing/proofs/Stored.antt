@@ -5,6 +5,7 @@ use mathlib.Core.List.{List, [], ◌∷◌}
 use Prim.Native.Nat.{ℕ, ◌+◌, ◌≤◌, ◌<◌}
 use native.Mathlib.Omega.{arith}
 use lib.ListN.{length}
+use Rattle.std.specs.Prelude.{Result, Err}
 use Rattle.calculus.specs.declared.Refusal.{Refusal}
 use Rattle.calculus.specs.declared.Refusal.TheVariants.{NoRoom}
 use Rattle.calculus.specs.Tree.{program, Tree, nodes}
@@ -14,8 +15,6 @@ use Rattle.calculus.specs.Sheets.{Sheet}
 use Rattle.calculus.specs.Calls.{Refusals, TableOf, table_refusals, Writes, written, not_written}
 use Rattle.calculus.proofs.Outcomes.{table_of_unique}
 use Rattle.table.specs.Checks.{checked_number}
-use Rattle.table.specs.declared.Checked.{Checked}
-use Rattle.table.specs.declared.Checked.TheVariants.{Refused}
 use Rattle.table.proofs.Sets.{sets_front}
 use Rattle.table.proofs.Trees.{one_tree}
 use Rattle.table.proofs.Verdicts.{refuses_early, refuses_late, accepts_both, table_stands}
@@ -29,7 +28,7 @@ no_room n t count out = (NoRoom, (p : Tree program) × (TableOf n t count p × (
 
 module _ {n : ℕ} {table : Sheet} {count : ℕ} {out : List ℕ} where
   -- the check refuses
-  pub write_refused : {r : Checked} {q : Refusal} → r ≡ Refused q → ChecksWith n table count (checked_number r) → Writes n table count out (record { refusal = number q; values = 0 ∷ [] }) out
+  pub write_refused : {r : Result Unit Refusal} {q : Refusal} → r ≡ Err q → ChecksWith n table count (checked_number r) → Writes n table count out (record { refusal = number q; values = 0 ∷ [] }) out
   write_refused {q = q} e h = not_written q (refuses_early (no_room n table.numbers count out) (table_refusals n table count) q (refused_with e h))
 
 module _ {n : ℕ} {table : Sheet} {count : ℕ} (a : HeldIn n table count) where

@@ -140,14 +140,14 @@ module _ (k n : ℕ) {r : Bool} (e : r ≡ get_or has_number k false) where
   pub number_room : {out mid : List ℕ} {to byte tag : ℕ} → Wrote out mid to byte (tag_bytes tag) → r ≡ true → BytesFit out to (head_bytes k n) → BytesFit mid byte (numeral n)
   number_room w t h = record { fits = omega (arith, rw t at (ap length head_is)) }
 
-  module _ {out mid : List ℕ} {to byte : ℕ} (w : Wrote out mid to byte (tag_bytes (get_or tags k 0))) where
+  module _ {out mid : List ℕ} {to byte tag : ℕ} (g : tag ≡ get_or tags k 0) (w : Wrote out mid to byte (tag_bytes tag)) where
     -- tag and number are the head of a kind with a number
     pub numbered_head : {after : List ℕ} {next : ℕ} → r ≡ true → Wrote mid after byte next (numeral n) → Wrote out after to next (head_bytes k n)
-    numbered_head t v = rw (head_is, t) (wrote_more w v)
+    numbered_head t v = rw (head_is, t, ← g) (wrote_more w v)
 
     -- the tag is the head of a kind without one
     pub plain_head : r ≡ false → Wrote out mid to byte (head_bytes k n)
-    plain_head t = rw (head_is, t) w
+    plain_head t = rw (head_is, t, ← g) w
 
 -- A term by its parts.
 

@@ -5,11 +5,10 @@ ghost use Rattle.calculus.specs.Sheets.{sheet};
 ghost use Rattle.calculus.specs.Calls.{Writes};
 
 use crate::write::{put_text, text_length};
-use calculus::{Counted, Refusal};
+use calculus::Refusal;
 use column::check::check_with;
-use table::Checked;
 
-// Writes the text of the program in a table with its column. The scratch is lent; the limit is the node limit.
+/// Writes the text of the program in a table with its column. The scratch is lent; the limit is the node limit.
 pub fn write(
     t: &[u16],
     column: &[u16],
@@ -17,20 +16,16 @@ pub fn write(
     out: &mut [u8],
     limit: usize,
     scratch: &mut [u16],
-) -> Counted
+) -> Result<usize, Refusal>
     requires limit_bound { limit < 32767 }
     requires limit_in_bounds { limit + 2 ≤ length scratch.old }
     ensures { Writes limit (sheet t.now column.now) count out.old (counted_values result) out.new }
 {
-    match check_with(t, column, count, limit, scratch) {
-        Checked::Refused(r) => Counted::Refused(r),
-        Checked::Admitted => {
-            let n = text_length(t, count);
-            if out.len() < n {
-                return Counted::Refused(Refusal::NoRoom);
-            }
-            put_text(t, out, scratch);
-            Counted::Count(n)
-        }
+    check_with(t, column, count, limit, scratch)?;
+    let n = text_length(t, count);
+    if out.len() < n {
+        return Err(Refusal::NoRoom);
     }
+    put_text(t, out, scratch);
+    Ok(n)
 }

@@ -1,74 +1,62 @@
 // Table to text.
 ghost use Rattle.std.specs.Prelude.{◌≡◌, false, [], ◌∷◌, ◌<◌, length, get_or};
 ghost use Rattle.writing.specs.Writing.{CountedProgram, TextLength, RoomForText, CellsForText, TextWritten};
-ghost use Rattle.writing.specs.Writer.{DigitCount, has_number, NodeBytes, tag_bytes, numeral, head_bytes, BytesFit, Wrote, Pushed, Asked, Put};
+ghost use Rattle.writing.specs.Writer.{DigitCount, has_number, NodeBytes, tags, tag_bytes, numeral, head_bytes, BytesFit, Wrote, Pushed, Asked, Put};
+ghost use Rattle.writing.specs.Cells.{code};
 
-use table::kinds::{ABSTRACTION, ALTERNATIVE, APPLICATION, EMPTY, FRESH};
+use table::kinds::{
+    ABSTRACTION, ALLOCATED, ALTERNATIVE, APPLICATION, BOUND, CONSTRUCTOR, EMPTY, FREE, FRESH,
+    GUARD, UNIFICATION,
+};
 use table::nodes::node_at;
 
 // How many digits the plain decimal of a number has.
 fn digits(n: u16) -> usize
     ensures { DigitCount n result }
 {
-    if n < 10 {
-        1
-    } else if n < 100 {
-        2
-    } else if n < 1000 {
-        3
-    } else if n < 10000 {
-        4
-    } else {
-        5
+    match n {
+        0..10 => 1,
+        10..100 => 2,
+        100..1000 => 3,
+        1000..10000 => 4,
+        _ => 5,
     }
 }
 
-// By kind: whether it has a number. From kind 7 on none has.
-const NUMBERED: [bool; 7] = [false, false, true, true, true, false, true];
-
+// Whether a node of the kind has a number.
 fn has_number(kind: u16) -> bool
     ensures { result ≡ get_or has_number kind false }
 {
-    if kind < APPLICATION {
-        NUMBERED[kind as usize]
-    } else {
-        false
-    }
+    matches!(kind, BOUND | FREE | CONSTRUCTOR | ALLOCATED)
 }
 
 // The bytes that a node adds to its program's text: a closing bracket counts with its opening one, an empty program is two brackets.
 fn node_bytes(kind: u16, number: u16) -> usize
     ensures { NodeBytes kind number result }
 {
-    if kind == EMPTY {
-        return 2;
+    match kind {
+        EMPTY => 2,
+        ALTERNATIVE => 0,
+        _ if has_number(kind) => 7 + digits(number),
+        _ => 5,
     }
-    if kind == ALTERNATIVE {
-        return 0;
-    }
-    if has_number(kind) {
-        return 7 + digits(number);
-    }
-    5
 }
 
-// The length of the text of the program at the front of a table.
+/// The length of the text of the program at the front of a table.
 pub fn text_length(t: &[u16], count: usize) -> usize
     requires counted_program { CountedProgram t.now count }
     requires count_bound { count < 65536 }
     ensures { TextLength t.now result }
 {
     let mut total: usize = 0;
-    let mut at: usize = 0;
-    while at < count {
+    for at in 0..count {
         let n = node_at(t, at);
         total += node_bytes(n.kind, n.number);
-        at += 1;
     }
     total
 }
 
-// Where writing has come to: the next node, the next byte of the output, and the cells on the stack.
+/// Where writing has come to: the next node, the next byte of the output, and the cells on the stack.
 #[derive(Clone, Copy)]
 pub struct Progress {
     pub node: usize,
@@ -76,7 +64,7 @@ pub struct Progress {
     pub cells: usize,
 }
 
-// One byte.
+/// One byte.
 pub fn put(out: &mut [u8], to: usize, b: u8) -> usize
     requires { BytesFit out.old to (b ∷ []) }
     ensures { Wrote out.old out.new to result (b ∷ []) }
@@ -96,7 +84,7 @@ fn put_tag(out: &mut [u8], to: usize, tag: u8) -> usize
     put(out, c, tag)
 }
 
-// A number as an N: its length of one digit, a colon, its digits from the last to the first.
+/// A number as an N: its length of one digit, a colon, its digits from the last to the first.
 pub fn put_number(out: &mut [u8], to: usize, n: u16) -> usize
     requires { BytesFit out.old to (numeral n) }
     ensures { Wrote out.old out.new to result (numeral n) }
@@ -105,46 +93,76 @@ pub fn put_number(out: &mut [u8], to: usize, n: u16) -> usize
     let a = put(out, to, b'0' + d as u8);
     let b = put(out, a, b':');
     let mut left = n;
-    let mut i = b + d;
-    while b < i {
-        i -= 1;
+    for i in (b..b + d).rev() {
         out[i] = b'0' + (left % 10) as u8;
         left /= 10;
     }
     b + d
 }
 
-// By kind. A program has no tag.
-const TAGS: [u8; 11] = [0, 0, b'v', b'x', b'c', b'l', b'L', b'a', b'n', b'g', b'u'];
+// The tag of a term of the kind. A program has none.
+fn tag_of(kind: u16) -> u8
+    ensures { result ≡ get_or tags kind 0 }
+{
+    match kind {
+        BOUND => b'v',
+        FREE => b'x',
+        CONSTRUCTOR => b'c',
+        ABSTRACTION => b'l',
+        ALLOCATED => b'L',
+        APPLICATION => b'a',
+        FRESH => b'n',
+        GUARD => b'g',
+        UNIFICATION => b'u',
+        _ => 0,
+    }
+}
 
 // What a term of the kind begins with: bracket, tag and, where it has one, its number.
 fn put_head(out: &mut [u8], to: usize, kind: u16, number: u16) -> usize
-    requires kind_bound { kind < 11 }
-    requires bytes_fit { BytesFit out.old to (head_bytes kind number) }
+    requires { BytesFit out.old to (head_bytes kind number) }
     ensures { Wrote out.old out.new to result (head_bytes kind number) }
 {
-    let byte = put_tag(out, to, TAGS[kind as usize]);
+    let byte = put_tag(out, to, tag_of(kind));
     if has_number(kind) {
-        return put_number(out, byte, number);
+        put_number(out, byte, number)
+    } else {
+        byte
     }
-    byte
 }
 
-// Cells of the stack, each a piece of the text that is still to be written. The term at the next node.
-const TERM: u16 = 0;
+/// A piece of the text that is still to be written.
+#[derive(Clone, Copy)]
+enum Piece {
+    /// The term at the next node.
+    Term,
+    /// The rest of a program, from the next node on, with its closing bracket.
+    Rest,
+    /// A closing bracket.
+    Close,
+}
 
-// The rest of a program, from the next node on, with its closing bracket.
-const REST: u16 = 1;
+impl Piece {
+    ghost use Rattle.writing.specs.Cells.{Stands};
 
-// A closing bracket.
-const CLOSE: u16 = 2;
+    /// The piece that a cell of the stack stands for.
+    fn of(cell: u16) -> Piece
+        ensures { Stands cell result }
+    {
+        match cell {
+            0 => Piece::Term,
+            2 => Piece::Close,
+            _ => Piece::Rest,
+        }
+    }
+}
 
-// One cell on top.
-fn push(stack: &mut [u16], cells: usize, cell: u16) -> usize
+// One piece on top.
+fn push(stack: &mut [u16], cells: usize, piece: Piece) -> usize
     requires { cells < length stack.old }
-    ensures { Pushed stack.old stack.new cells result cell }
+    ensures { Pushed stack.old stack.new cells result (code piece) }
 {
-    stack[cells] = cell;
+    stack[cells] = piece as u16;
     cells + 1
 }
 
@@ -165,86 +183,80 @@ fn put_term(
     let byte = put_head(out, to, n.kind, n.number);
     // variables and constructors have no part, the two abstractions a program, a fresh a term, the others two terms
     if n.kind < ABSTRACTION {
-        return Progress {
-            node: node,
-            byte: put(out, byte, b')'),
-            cells: cells,
-        };
+        let byte = put(out, byte, b')');
+        return Progress { node, byte, cells };
     }
-    let close = push(stack, cells, CLOSE);
+    let close = push(stack, cells, Piece::Close);
     if n.kind < APPLICATION {
-        return Progress {
-            node: node,
-            byte: put(out, byte, b'('),
-            cells: push(stack, close, REST),
-        };
+        let byte = put(out, byte, b'(');
+        let cells = push(stack, close, Piece::Rest);
+        return Progress { node, byte, cells };
     }
-    let last = push(stack, close, TERM);
+    let last = push(stack, close, Piece::Term);
     if n.kind == FRESH {
         return Progress {
-            node: node,
-            byte: byte,
+            node,
+            byte,
             cells: last,
         };
     }
-    Progress {
-        node: node,
-        byte: byte,
-        cells: push(stack, last, TERM),
-    }
+    let cells = push(stack, last, Piece::Term);
+    Progress { node, byte, cells }
 }
 
-// The piece whose cell was on top.
+// The piece that was on top.
 fn put_piece(
     t: &[u16],
-    cell: u16,
+    piece: Piece,
     at: usize,
     out: &mut [u8],
     to: usize,
     stack: &mut [u16],
     cells: usize,
 ) -> Progress
-    requires { Asked cell t.now at out.old to stack.old cells }
-    ensures { Put cell t.now at out.old to stack.old cells out.new stack.new result.node result.byte result.cells }
+    requires { Asked (code piece) t.now at out.old to stack.old cells }
+    ensures { Put (code piece) t.now at out.old to stack.old cells out.new stack.new result.node result.byte result.cells }
 {
-    if cell == TERM {
-        return put_term(t, at, out, to, stack, cells);
-    }
-    if cell == CLOSE {
-        return Progress {
+    match piece {
+        Piece::Term => put_term(t, at, out, to, stack, cells),
+        Piece::Close => Progress {
             node: at,
             byte: put(out, to, b')'),
-            cells: cells,
-        };
+            cells,
+        },
+        Piece::Rest => {
+            let n = node_at(t, at);
+            let next = at + 1;
+            if n.kind == EMPTY {
+                return Progress {
+                    node: next,
+                    byte: put(out, to, b')'),
+                    cells,
+                };
+            }
+            let rest = push(stack, cells, Piece::Rest);
+            put_term(t, next, out, to, stack, rest)
+        }
     }
-    let n = node_at(t, at);
-    let next = at + 1;
-    if n.kind == EMPTY {
-        return Progress {
-            node: next,
-            byte: put(out, to, b')'),
-            cells: cells,
-        };
-    }
-    let rest = push(stack, cells, REST);
-    put_term(t, next, out, to, stack, rest)
 }
 
-// The text of the program at the front of a table, at the front of the output. The stack is lent: what it holds afterwards says nothing.
+/// The text of the program at the front of a table, at the front of the output. The stack is lent: what it holds afterwards says nothing.
 pub fn put_text(t: &[u16], out: &mut [u8], stack: &mut [u16])
     requires room_for_text { RoomForText t.now out.old }
     requires cells_for_text { CellsForText t.now stack.old }
     ensures { TextWritten t.now out.old out.new }
 {
-    let mut node: usize = 0;
-    let mut byte = put(out, 0, b'(');
-    let mut cells = push(stack, 0, REST);
-    while 0 < cells {
-        let top = cells - 1;
-        let cell = stack[top];
-        let p = put_piece(t, cell, node, out, byte, stack, top);
-        node = p.node;
-        byte = p.byte;
-        cells = p.cells;
+    let byte = put(out, 0, b'(');
+    let cells = push(stack, 0, Piece::Rest);
+    let mut p = Progress {
+        node: 0,
+        byte,
+        cells,
+    };
+    // a piece puts others on the stack: no range or list is gone through
+    while 0 < p.cells {
+        let top = p.cells - 1;
+        let piece = Piece::of(stack[top]);
+        p = put_piece(t, piece, p.node, out, p.byte, stack, top);
     }
 }

@@ -1,6 +1,6 @@
--- `leaf::report::put_all` meets its contract. The loop's invariant: the first i bytes stand there.
-use Rattle.leaf.proofs.Stores.{filling_more}
+-- `leaf::report::put_all` meets its contract: the bytes are copied.
+use Rattle.leaf.proofs.Stores.{copied}
 use Rattle.leaf.proofs.report.put_all.Goals as goal
 
-pub loop-i-preserved : goal.loop-i-preserved
-loop-i-preserved c = filling_more c.loop-i.invariant c.loop-i-test.true
+pub returns : goal.returns
+returns c = copied c.requires c.copy_from_slice.ensures.after

@@ -11,5 +11,5 @@ put_number-requires c = search number_room
 pub returns-then-has_number : goal.returns-then-has_number
 returns-then-has_number c = search numbered_head
 
-pub returns : goal.returns
-returns c = search plain_head
+pub returns-else-has_number : goal.returns-else-has_number
+returns-else-has_number c = search plain_head

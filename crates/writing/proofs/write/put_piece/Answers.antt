@@ -7,7 +7,7 @@ pub node_at-n-requires : goal.node_at-n-requires
 node_at-n-requires c = search rest_inside
 
 pub overflow_add-next : goal.overflow_add-next
-overflow_add-next c = omega (arith, rest_inside c.if-cell-eq-TERM.false c.if-cell-eq-CLOSE.false c.requires)
+overflow_add-next c = omega (arith, rest_inside c.in-Rest.is c.requires)
 
 pub returns-then-n-eq-EMPTY : goal.returns-then-n-eq-EMPTY
 returns-then-n-eq-EMPTY c = search end_put
@@ -15,8 +15,8 @@ returns-then-n-eq-EMPTY c = search end_put
 pub push-rest-requires : goal.push-rest-requires
 push-rest-requires c = search rest_cell
 
-pub put_term-requires-2 : goal.put_term-requires-2
-put_term-requires-2 c = search member_asked
+pub put_term-requires-in-Rest : goal.put_term-requires-in-Rest
+put_term-requires-in-Rest c = search member_asked
 
-pub returns : goal.returns
-returns c = search member_put
+pub returns-else-n-eq-EMPTY : goal.returns-else-n-eq-EMPTY
+returns-else-n-eq-EMPTY c = search member_put

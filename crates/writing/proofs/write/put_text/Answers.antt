@@ -9,11 +9,11 @@ put-byte-requires c = search opening_room
 pub push-cells-requires : goal.push-cells-requires
 push-cells-requires c = search first_cell
 
-pub loop-cells-init : goal.loop-cells-init
-loop-cells-init c = search text_start
+pub loop-p-init : goal.loop-p-init
+loop-p-init c = search text_start
 
 pub offset_bounds-stack-top : goal.offset_bounds-stack-top
-offset_bounds-stack-top c = omega (arith, top_inside c.loop-cells.invariant c.loop-cells-test.true)
+offset_bounds-stack-top c = omega (arith, top_inside c.loop-p.invariant c.loop-p-test.true)
 
 pub bounds-stack-top : goal.bounds-stack-top
 bounds-stack-top c = search top_inside
@@ -21,11 +21,11 @@ bounds-stack-top c = search top_inside
 pub put_piece-p-requires : goal.put_piece-p-requires
 put_piece-p-requires c = search top_asked
 
-pub loop-cells-preserved : goal.loop-cells-preserved
-loop-cells-preserved c = search text_next
+pub loop-p-preserved : goal.loop-p-preserved
+loop-p-preserved c = search text_next
 
 pub returns : goal.returns
 returns c = search text_put
 
-pub loop-cells-smaller : goal.loop-cells-smaller
-loop-cells-smaller c = let h = loop-cells-preserved c in omega (arith, h.left.to_come.room.fits, c.put_piece-p.ensures.later, c.put_piece-p.auto)
+pub loop-p-smaller : goal.loop-p-smaller
+loop-p-smaller c = let h = loop-p-preserved c in omega (arith, h.left.to_come.room.fits, c.put_piece-p.ensures.later, c.put_piece-p.auto)

@@ -4,8 +4,8 @@ use lib.ListN.{length}
 use Rattle.writing.proofs.Pieces.{TextLeft}
 use Rattle.writing.proofs.write.put_text.Given as goal
 
-abbrev pub invariant-loop-cells : goal.invariant-loop-cells
-invariant-loop-cells l = TextLeft l.t l.initial.out l.initial.byte l.out (length l.initial.stack) l.stack l.node l.byte l.cells
+abbrev pub invariant-loop-p : goal.invariant-loop-p
+invariant-loop-p l = TextLeft l.t l.initial.out l.byte l.out (length l.initial.stack) l.stack l.p.node l.p.byte l.p.cells
 
-abbrev pub decreases-loop-cells : goal.decreases-loop-cells
-decreases-loop-cells l = length l.out - l.byte
+abbrev pub decreases-loop-p : goal.decreases-loop-p
+decreases-loop-p l = length l.out - l.p.byte

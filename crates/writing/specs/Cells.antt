@@ -1,0 +1,14 @@
+-- The pieces as the stack of the writer holds them.
+use Rattle.std.specs.Prelude.{◌≡◌, ℕ, ◌≤◌}
+use Rattle.writing.specs.declared.write.Piece.{Piece}
+use Rattle.writing.specs.declared.write.Piece.TheVariants.{Term, Rest, Close}
+
+-- the number that its cell has
+abbrev pub code : Piece → ℕ
+code Term = 0
+code Rest = 1
+code Close = 2
+
+-- a piece's number stands for it
+abbrev pub Stands : ℕ → Piece → Type 0
+Stands cell piece = cell ≤ 2 → code piece ≡ cell
