@@ -1,7 +1,7 @@
 // One descent over the grammar. It gives 4 at once, and carries on for 5, 6 and 7 to the end of the text, past the node limit.
-ghost use Rattle.std.specs.Prelude.{◌≡◌, [], ◌∷◌, ℕ, ◌+◌, ◌^◌, ◌<◌, ◌≤◌, length, drop, Some};
+ghost use Rattle.std.specs.Prelude.{◌≡◌, [], ◌∷◌, ℕ, ◌+◌, ◌^◌, ◌<◌, ◌≤◌, length, Some};
 ghost use Rattle.reading.specs.Reading.{Parses, parsed_values};
-ghost use Rattle.reading.specs.Descent.{Noted, Heads, BeforeTerm, BeforeGoal, Tops, Ahead, Follows, Advances, Descends, number, one_term, waiting, descent_of, turn_of, SameParse, Stays};
+ghost use Rattle.reading.specs.Descent.{Noted, Heads, Tops, Ahead, Follows, Descends, number, one_term, descent_of, goals_of, Ready, TermReady, Turned, SameParse, Stays};
 
 use crate::goals::{Goal, Waiting, announced, push};
 use crate::items::{atom_at, close_at, open_at, tag_at};
@@ -92,8 +92,8 @@ impl<'a> Parser<'a> {
 
     // A term before the goals that wait: its tag and its node. What its tag announces waits then, and its closing bracket.
     fn term(&mut self) -> Option<()>
-        requires { BeforeTerm self.old.limit self.old.text.now self.old.goals.now self.old.cursor self.old.met self.old.ahead }
-        ensures advances { Advances self.old.limit self.old.text.now (one_term self.old.ahead.binders ∷ waiting (drop self.old.ahead.top self.old.goals.now)) self.old.cursor self.old.met self.old.build.now (turn_of result self.new) self.new.build.now self.new.goals.now }
+        requires { TermReady self.old }
+        ensures advances { Turned (one_term self.old.ahead.binders ∷ goals_of self.old) self.old result self.new }
         ensures same { SameParse self.old self.new }
     {
         let (tag, next) = tag_at(self.text, self.cursor)?;
@@ -105,9 +105,9 @@ impl<'a> Parser<'a> {
 
     // The members of a program that are the next goal: its closing bracket, or a term before them.
     fn member(&mut self) -> Option<()>
-        requires before_goal { BeforeGoal self.old.limit self.old.text.now self.old.goals.now self.old.cursor self.old.met self.old.ahead }
+        requires before_goal { Ready self.old }
         requires tops { Tops self.old.goals.now self.old.ahead.top 1 }
-        ensures advances { Advances self.old.limit self.old.text.now (waiting (drop self.old.ahead.top self.old.goals.now)) self.old.cursor self.old.met self.old.build.now (turn_of result self.new) self.new.build.now self.new.goals.now }
+        ensures advances { Turned (goals_of self.old) self.old result self.new }
         ensures same { SameParse self.old self.new }
     {
         if let Some(next) = close_at(self.text, self.cursor) {
@@ -122,9 +122,9 @@ impl<'a> Parser<'a> {
 
     // Reads the next goal.
     fn advance(&mut self) -> Option<()>
-        requires before_goal { BeforeGoal self.old.limit self.old.text.now self.old.goals.now self.old.cursor self.old.met self.old.ahead }
+        requires before_goal { Ready self.old }
         requires top_in_bounds { self.old.ahead.top < length self.old.goals.now }
-        ensures advances { Advances self.old.limit self.old.text.now (waiting (drop self.old.ahead.top self.old.goals.now)) self.old.cursor self.old.met self.old.build.now (turn_of result self.new) self.new.build.now self.new.goals.now }
+        ensures advances { Turned (goals_of self.old) self.old result self.new }
         ensures same { SameParse self.old self.new }
     {
         let top = self.ahead.top;
@@ -147,8 +147,8 @@ impl<'a> Parser<'a> {
 
     // One goal after another, until none is left.
     fn descend(&mut self) -> Option<()>
-        requires { BeforeGoal self.old.limit self.old.text.now self.old.goals.now self.old.cursor self.old.met self.old.ahead }
-        ensures follows { Follows self.old.limit self.old.text.now (waiting (drop self.old.ahead.top self.old.goals.now)) (Some (self.old.cursor, self.old.met)) self.old.build.now [] (descent_of result self.new) self.new.build.now }
+        requires { Ready self.old }
+        ensures follows { Follows self.old.limit self.old.text.now (goals_of self.old) (Some (self.old.cursor, self.old.met)) self.old.build.now [] (descent_of result self.new) self.new.build.now }
         ensures ahead { Ahead self.old.text.now 0 (descent_of result self.new) }
         ensures same { SameParse self.old self.new }
     {
