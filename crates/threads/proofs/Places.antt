@@ -4,7 +4,7 @@ use mathlib.Core.Logic.{inl}
 use mathlib.Core.List.{List, [], ◌∷◌, ◌++◌}
 use Prim.Native.Nat.{ℕ, ◌+◌, ◌*◌, ◌-◌, ◌≤◌, ◌<◌}
 use native.Mathlib.Omega.{arith}
-use Rattle.std.specs.Prelude.{Option, Some, None}
+use Rattle.std.specs.Prelude.{Option, Some, None, Result, Ok, Err}
 use lib.ListN.{length, get_or, take, drop, length-append}
 use Rattle.calculus.specs.declared.Refusal.{Refusal}
 use Rattle.calculus.specs.declared.Refusal.TheVariants as refusal
@@ -18,8 +18,6 @@ use Rattle.calculus.proofs.Preorders.{nodes_positive, threads_of_program}
 use Rattle.calculus.proofs.Columns.{size_behind, spine_length, spine_place}
 use Rattle.table.specs.Nodes.{Stands}
 use Rattle.table.specs.Checks.{checked_number}
-use Rattle.table.specs.declared.Checked.{Checked}
-use Rattle.table.specs.declared.Checked.TheVariants.{Admitted, Refused}
 use Rattle.table.proofs.Trees.{one_tree, see, moved, ends_in, own_part}
 use Rattle.table.proofs.Verdicts.{refuses_early, refuses_late, accepts_both, table_stands}
 use Rattle.column.specs.Sizes.{SizeAt}
@@ -65,7 +63,7 @@ pub record ThreadAt (n : ℕ) (table : Sheet) (count k i : ℕ) : Type 0 where
 
 module _ {n : ℕ} {table : Sheet} {count : ℕ} where
   -- where the check refuses, so do the thread calls
-  pub thread_refused : {r : Checked} {q : Refusal} (k : ℕ) → r ≡ Refused q → ChecksWith n table count (checked_number r) → Refuses (thread_refusals n table count k) q
+  pub thread_refused : {r : Result Unit Refusal} {q : Refusal} (k : ℕ) → r ≡ Err q → ChecksWith n table count (checked_number r) → Refuses (thread_refusals n table count k) q
   thread_refused {q = q} k e h = refuses_early (no_thread n table.numbers count k) (table_refusals n table count) q (refused_with e h)
 
   -- then there is no part
@@ -110,7 +108,7 @@ module _ {n : ℕ} {table : Sheet} {count : ℕ} (a : HeldIn n table count) wher
   thread_there q w = there_at w (ap place_values q)
 
 -- the thread that the place tells, of a table that the check admits
-pub thread_held : {n : ℕ} {table : Sheet} {count k i : ℕ} {r : Checked} {q : Option ℕ} → r ≡ Admitted → ChecksWith n table count (checked_number r) → q ≡ Some i → PlaceOf table.numbers k (place_values q) → ThreadAt n table count k i
+pub thread_held : {n : ℕ} {table : Sheet} {count k i : ℕ} {r : Result Unit Refusal} {u : Unit} {q : Option ℕ} → r ≡ Ok u → ChecksWith n table count (checked_number r) → q ≡ Some i → PlaceOf table.numbers k (place_values q) → ThreadAt n table count k i
 thread_held a h e p = thread_there (held_there a h) e p
 
 -- so many nodes from the node i on are the part of the thread k

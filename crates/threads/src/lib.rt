@@ -8,7 +8,6 @@ ghost use Rattle.threads.specs.Places.{thread_behind, ProgramAt, place_values, P
 
 use column::check::check_with;
 use column::sizes::size_at;
-use table::Checked;
 use table::kinds::EMPTY;
 use table::nodes::node_at;
 
@@ -59,7 +58,7 @@ pub fn span_of(
         start: 0,
         length: 0,
     };
-    let Checked::Admitted = check_with(t, column, count, limit, scratch) else {
+    let Ok(()) = check_with(t, column, count, limit, scratch) else {
         return nothing;
     };
     let Some(start) = place_of(t, column, k) else {
