@@ -12,7 +12,7 @@ use Rattle.std.specs.Prelude.{Option, Some, None}
 use Rattle.calculus.specs.declared.Refusal.TheVariants.{OutOfPlace, BadNumber, NoBinder}
 use Rattle.calculus.specs.Sexp.{atom, list, nothing, bytes}
 use Rattle.calculus.specs.Tree.{program, Tree, nodes}
-use Rattle.calculus.specs.Good.{constructors}
+use Rattle.calculus.specs.Answers.{Values}
 use Rattle.calculus.specs.Calls.{TextOf}
 use Rattle.calculus.specs.Text.{Raw, raw_empty, encode, raw, raw_text, text}
 use Rattle.calculus.proofs.Bytes.{bytes_prefix, members_prefix}
@@ -26,8 +26,9 @@ use Rattle.csexp.proofs.Closings.{no_bracket, Took}
 use Rattle.reading.specs.Numbers.{NumberIs}
 use Rattle.reading.specs.declared.goals.Waiting.{Waiting}
 use Rattle.reading.specs.declared.parse.Met.{Met}
+use Rattle.reading.specs.declared.parse.Parser.{Parser}
 use Rattle.reading.specs.Reading.{none_found, Parses, out, bad, loose, of_nodes}
-use Rattle.reading.specs.Descent.{Between, AtomBetween, Note, no_node, node_note, followed, number_note, note, Keeps, Noted, ToRead, kind, number, bracket, one_term, members, Fill, spelled, noted, Fills, spelled_all, noted_all, Passes, Leads, ReadsOn, Beyond, Ahead, Descends, Row, tag, node_of, Heads, row, no_row, ends, waiting, cells_of, Pushes, Announces, GoalsStacked, BeforeGoal, BeforeTerm, Tops, Follows, Advances, FoundAt, Descent, Turn}
+use Rattle.reading.specs.Descent.{Between, AtomBetween, Note, no_node, node_note, followed, number_note, note, Keeps, Noted, ToRead, kind, number, bracket, one_term, members, Fill, spelled, noted, Fills, spelled_all, noted_all, Passes, Leads, ReadsOn, Beyond, Ahead, Descends, Row, tag, node_of, Heads, row, no_row, ends, waiting, cells_of, Pushes, Announces, GoalsStacked, BeforeGoal, BeforeTerm, Tops, Follows, Advances, FoundAt, Descent, Turn, SameParse}
 use Rattle.reading.proofs.Decimals.{not_plain}
 use Rattle.reading.proofs.Grammar.{parts, tag_injective, followed_assoc, followed_none, followed_end, term_of, term_spelled, term_noted, made, tagged, program_of, program_spelled, program_noted, member, note_read, note_unread, Told, told, treed}
 use Rattle.reading.proofs.Stacks.{next_goal, next_end, tag_long, announced_parts}
@@ -342,45 +343,41 @@ module _ {n : ℕ} {s cells : List ℕ} {c : Cursor} {m : Met} {w : Waiting} (p 
 -- The loop.
 
 -- where what waits leads, the goals gs lead from the place c₀ on
-pub record Looping (n : ℕ) (s : List ℕ) (gs : List ToRead) (c₀ : Cursor) (m₀ : Met) (b₀ cells₀ : List ℕ) (c : Cursor) (m : Met) (w : Waiting) (b cells : List ℕ) : Type 0 where
+pub record Looping (n : ℕ) (s : List ℕ) (gs : List ToRead) (c₀ : Cursor) (m₀ : Met) (b₀ : List ℕ) (c : Cursor) (m : Met) (w : Waiting) (b cells : List ℕ) : Type 0 where
   pub follows : Follows n s gs (Some (c₀, m₀)) b₀ (waiting (drop w.top cells)) (Some (c, m)) b
   pub stands : BeforeGoal n s cells c m w
-  pub same_long : length b ≡ length b₀
-  pub same_deep : length cells ≡ length cells₀
 
 -- the whole program waits
-pub loop_start : {n : ℕ} {s : List ℕ} {c : Cursor} {m : Met} {b cells cells₁ cells₂ : List ℕ} {t t₂ : ℕ} → n < constructors → length s + 2 ≤ length cells → Beyond s 0 c.at m.nodes → Pushes 1 cells (length cells) t cells₁ → Pushes 2 cells₁ t t₂ cells₂ → length cells₂ ≡ length cells → Looping n s (bracket 40 ∷ members 0 ∷ []) c m b cells₂ c m (record { top = t₂; binders = 0 }) b cells₂
-loop_start {cells} {cells₂} {t₂} h g k p q l =
-    let e : drop t₂ cells₂ ≡ 2 ∷ 1 ∷ [] = rw (q.here, p.here, drop-length cells) in
-    record {
-      follows = rw e (record { then_on = λ z end u. u });
-      stands = record { small = h; long = omega arith; beyond = k; stacked = record { on = omega (arith, p.one_less, q.one_less); room = omega (arith, p.one_less, q.one_less); binds = rw e } };
-      same_long = refl;
-      same_deep = refl;
-    }
+pub program_waits : {cells cells₁ cells₂ : List ℕ} {t t₂ : ℕ} → Pushes 1 cells (length cells) t cells₁ → Pushes 2 cells₁ t t₂ cells₂ → drop t₂ cells₂ ≡ 2 ∷ 1 ∷ []
+program_waits {cells} p q = rw (q.here, p.here, drop-length cells)
 
-module _ {n : ℕ} {s : List ℕ} {gs : List ToRead} {c₀ : Cursor} {m₀ : Met} {b₀ cells₀ : List ℕ} {c : Cursor} {m : Met} {w : Waiting} {b cells : List ℕ} (l : Looping n s gs c₀ m₀ b₀ cells₀ c m w b cells) where
+-- at first all that waits is to be read
+pub loop_start : {n : ℕ} {s cells : List ℕ} {c : Cursor} {m : Met} {w : Waiting} {b : List ℕ} → BeforeGoal n s cells c m w → Looping n s (waiting (drop w.top cells)) c m b c m w b cells
+loop_start h = record { follows = record { then_on = λ z end u. u }; stands = h }
+
+module _ {n : ℕ} {s : List ℕ} {gs : List ToRead} {c₀ : Cursor} {m₀ : Met} {b₀ : List ℕ} {c : Cursor} {m : Met} {w : Waiting} {b cells : List ℕ} (l : Looping n s gs c₀ m₀ b₀ c m w b cells) where
   -- nothing waits
   pub loop_end : w.top ≡ length cells → Follows n s gs (Some (c₀, m₀)) b₀ [] (Some (c, m)) b × Ahead s 0 (Some (c, m))
   loop_end e =
       let f : drop w.top cells ≡ [] = rw (e, drop-length cells) in
       (rw f at l.follows, ahead_to l.stands.beyond)
 
-  module _ {y : Turn} {b' cells' : List ℕ} (a : Advances n s (waiting (drop w.top cells)) c m b y b' cells') where
-    -- the next goal is not there
-    pub loop_out : y ≡ None → Follows n s gs (Some (c₀, m₀)) b₀ [] None b' × Ahead s 0 None
-    loop_out e = (follows_on l.follows (rw e at a.follows), ahead_out refl)
+  -- the next goal is not there
+  pub loop_out : {b' cells' : List ℕ} → Advances n s (waiting (drop w.top cells)) c m b None b' cells' → Follows n s gs (Some (c₀, m₀)) b₀ [] None b' × Ahead s 0 None
+  loop_out a = (follows_on l.follows a.follows, ahead_out refl)
 
-    -- it is passed
-    pub loop_again : {c' : Cursor} {m' : Met} {w' : Waiting} → y ≡ Some (c', m', w') → length b' ≡ length b → length cells' ≡ length cells → Looping n s gs c₀ m₀ b₀ cells₀ c' m' w' b' cells'
-    loop_again {c'} {m'} {w'} e p q =
-        let h = a.ahead c' m' w' e in
-        record {
-          follows = follows_on l.follows (rw e at a.follows);
-          stands = record { small = l.stands.small; long = omega (arith, l.stands.long); beyond = omega (arith, h.0); stacked = h.1 };
-          same_long = p ∙ l.same_long;
-          same_deep = q ∙ l.same_deep;
-        }
+  -- it is passed
+  pub loop_again : {c' : Cursor} {m' : Met} {w' : Waiting} {b' cells' : List ℕ} → Advances n s (waiting (drop w.top cells)) c m b (Some (c', m', w')) b' cells' → length cells' ≡ length cells → Looping n s gs c₀ m₀ b₀ c' m' w' b' cells'
+  loop_again {c'} {m'} {w'} a q =
+      let h = a.ahead c' m' w' refl in
+      record {
+        follows = follows_on l.follows a.follows;
+        stands = record { small = l.stands.small; long = omega (arith, l.stands.long); beyond = omega (arith, h.0); stacked = h.1 };
+      }
+
+-- the same text, limit and tables after one turn and another
+pub same_again : {p q r : Parser} → SameParse p q → SameParse q r → SameParse p r
+same_again a b = record { text = b.text ∙ a.text; limit = b.limit ∙ a.limit; build = b.build ∙ a.build; long_build = b.long_build ∙ a.long_build; long_goals = b.long_goals ∙ a.long_goals }
 
 -- An N.
 
@@ -412,6 +409,10 @@ module _ {s : List ℕ} {c : Cursor} {m : Met} {k below d : ℕ} where
 
 -- The whole text.
 
+-- however the build table is named
+pub parses_in : {n : ℕ} {s b b' : List ℕ} {v : Values} → b' ≡ b → Parses n s b v → Parses n s b' v
+parses_in e h = rw e h
+
 text_spelled : (r : Raw program) → raw_text r ≡ spelled_all (bracket 40 ∷ members 0 ∷ []) (tt, (r, tt))
 unfolding raw_text bytes
 text_spelled r = rw append-nil
@@ -428,7 +429,7 @@ pub record Whole (n : ℕ) (s : List ℕ) (c : Cursor) (m : Met) (b : List ℕ) 
   pub keeps : Keeps (note n 0 found) m b
   pub within : c.at ≤ length s
 
-abbrev nothing_met : Met
+abbrev pub nothing_met : Met
 nothing_met = record { nodes = 0; bad = false; loose = false }
 
 module _ {n : ℕ} {s : List ℕ} {c : Cursor} {b b' : List ℕ} {y : Descent} (start : c.at ≡ 0) (h : Follows n s (bracket 40 ∷ members 0 ∷ []) (Some (c, nothing_met)) b [] y b' × Ahead s 0 y) where

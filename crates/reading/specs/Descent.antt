@@ -10,6 +10,7 @@ use Rattle.reading.specs.declared.goals.Goal.{Goal}
 use Rattle.reading.specs.declared.goals.Goal.TheVariants.{Term, Members, Open, Close, CloseBinder}
 use Rattle.reading.specs.declared.goals.Waiting.{Waiting}
 use Rattle.reading.specs.declared.parse.Met.{Met}
+use Rattle.reading.specs.declared.parse.Parser.{Parser}
 
 -- Items.
 
@@ -309,3 +310,28 @@ pub record Follows (n : ℕ) (s : List ℕ) (gs : List ToRead) (x : Descent) (bu
 pub record Advances (n : ℕ) (s : List ℕ) (gs : List ToRead) (c : Cursor) (m : Met) (build : List ℕ) (y : Turn) (build' cells' : List ℕ) : Type 0 where
   pub follows : Follows n s gs (Some (c, m)) build (left y cells') (descent y) build'
   pub ahead : (c' : Cursor) (m' : Met) (w' : Waiting) → y ≡ Some (c', m', w') → Beyond s (c.at + 1) c'.at m'.nodes × GoalsStacked cells' c'.at w'
+
+-- The parser.
+
+-- where it is, as a descent or as a turn says it
+abbrev pub descent_of : Option Unit → Parser → Descent
+descent_of None p = None
+descent_of (Some u) p = Some (p.cursor, p.met)
+
+abbrev pub turn_of : Option Unit → Parser → Turn
+turn_of None p = None
+turn_of (Some u) p = Some (p.cursor, p.met, p.ahead)
+
+-- the same text, limit and lent tables
+pub record SameParse (p q : Parser) : Type 0 where
+  pub text : q.text.now ≡ p.text.now
+  pub limit : q.limit ≡ p.limit
+  pub build : q.build.ghost_name ≡ p.build.ghost_name
+  pub long_build : length q.build.now ≡ length p.build.now
+  pub long_goals : length q.goals.now ≡ length p.goals.now
+
+-- and the same goals wait
+pub record Stays (p q : Parser) : Type 0 where
+  pub same : SameParse p q
+  pub goals : q.goals.now ≡ p.goals.now
+  pub ahead : q.ahead ≡ p.ahead
