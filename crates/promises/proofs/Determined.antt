@@ -1,13 +1,14 @@
 -- Document 01 (a) over the calls: a contract allows one answer, and one content of every lent buffer, columns among them, for any node limit n. The answers are the
--- enums of the calls and the structs of the exported functions.
+-- Results of the calls and the structs of the exported functions.
 use mathlib.Core.Path.{◌≡◌, sym, ap, ◌∙◌}
 use mathlib.Core.List.{List}
 use Prim.Native.Nat.{ℕ, ◌+◌, ◌*◌}
 use lib.ListN.{length, drop}
-use Rattle.calculus.specs.declared.Counted.{Counted}
+use Rattle.std.specs.Prelude.{Result}
+use Rattle.calculus.specs.declared.Refusal.{Refusal}
+use Rattle.calculus.specs.declared.Standing.{Standing}
 use Rattle.calculus.specs.declared.Stepped.{Stepped}
 use Rattle.calculus.specs.declared.Ran.{Ran}
-use Rattle.calculus.specs.declared.Stood.{Stood}
 use Rattle.calculus.specs.Sheets.{Sheet}
 use Rattle.calculus.specs.Answers.{Values, counted_values, stepped_values, ran_values, stood_values}
 use Rattle.calculus.specs.Calls.{Reads, Writes, StepsInto, RunsWith, StandsAt}
@@ -50,7 +51,7 @@ told once x y e = (once x y e.0, e.1)
 
 module _ {n : ℕ} {b : List ℕ} {out o u : Sheet} where
   -- a read: the answer, the output and its column
-  pub read_determined : (x y : Counted) → Reads n b out (counted_values x) o → Reads n b out (counted_values y) u → (x ≡ y) × (o ≡ u)
+  pub read_determined : (x y : Result ℕ Refusal) → Reads n b out (counted_values x) o → Reads n b out (counted_values y) u → (x ≡ y) × (o ≡ u)
   read_determined x y h k = told counted_once x y (reads_once h k)
 
   -- as exported
@@ -60,7 +61,7 @@ module _ {n : ℕ} {b : List ℕ} {out o u : Sheet} where
 module _ {n : ℕ} {table : Sheet} {count : ℕ} where
   module _ {out o u : List ℕ} where
     -- a write
-    pub write_determined : (x y : Counted) → Writes n table count out (counted_values x) o → Writes n table count out (counted_values y) u → (x ≡ y) × (o ≡ u)
+    pub write_determined : (x y : Result ℕ Refusal) → Writes n table count out (counted_values x) o → Writes n table count out (counted_values y) u → (x ≡ y) × (o ≡ u)
     write_determined x y h k = told counted_once x y (writes_once h k)
 
     -- as exported
@@ -69,7 +70,7 @@ module _ {n : ℕ} {table : Sheet} {count : ℕ} where
 
   module _ {out o u : Sheet} where
     -- a step
-    pub step_determined : (x y : Stepped) → StepsInto n table count out (stepped_values x) o → StepsInto n table count out (stepped_values y) u → (x ≡ y) × (o ≡ u)
+    pub step_determined : (x y : Result Stepped Refusal) → StepsInto n table count out (stepped_values x) o → StepsInto n table count out (stepped_values y) u → (x ≡ y) × (o ≡ u)
     step_determined x y h k = told stepped_once x y (steps_once h k)
 
     -- as exported
@@ -78,7 +79,7 @@ module _ {n : ℕ} {table : Sheet} {count : ℕ} where
 
   module _ {work : Sheet} {limit : ℕ} {t w p q : Sheet} where
     -- a run: the answer, the table, the work table and their columns
-    pub run_determined : (x y : Ran) → RunsWith n table count work limit (ran_values x) t w → RunsWith n table count work limit (ran_values y) p q → (x ≡ y) × (t ≡ p) × (w ≡ q)
+    pub run_determined : (x y : Result Ran Refusal) → RunsWith n table count work limit (ran_values x) t w → RunsWith n table count work limit (ran_values y) p q → (x ≡ y) × (t ≡ p) × (w ≡ q)
     run_determined x y h k = let e = runs_once h k in (ran_once x y e.0, e.1, e.2)
 
     -- as exported
@@ -87,7 +88,7 @@ module _ {n : ℕ} {table : Sheet} {count : ℕ} where
 
   module _ {k : ℕ} where
     -- the standing call: the answer
-    pub standing_determined : (x y : Stood) → StandsAt n table count k (stood_values x) → StandsAt n table count k (stood_values y) → x ≡ y
+    pub standing_determined : (x y : Result Standing Refusal) → StandsAt n table count k (stood_values x) → StandsAt n table count k (stood_values y) → x ≡ y
     standing_determined x y h i = stood_once x y (stands_once h i)
 
     -- as exported

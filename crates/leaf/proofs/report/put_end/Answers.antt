@@ -22,20 +22,20 @@ slice_bounds-write-start c =
 pub overflow_add-at : goal.overflow_add-at
 overflow_add-at c =
     let few : c.args.steps < 65536 = omega (arith, c.ranges.steps) in
-    let short : c.put_start-at.result + c.in-Count.n ≤ 12 * small_limit + 15 = end_small c.args.reason c.args.steps c.requires.holds_good c.requires.longest_in_bounds (few) c.put_start-at.ensures c.write.ensures (ap counted_values c.in-Count.is) in
+    let short : c.put_start-at.result + c.in-Ok.n ≤ 12 * small_limit + 15 = end_small c.args.reason c.args.steps c.requires.holds_good c.requires.longest_in_bounds (few) c.put_start-at.ensures c.write.ensures (ap counted_values c.in-Ok.is) in
     omega (arith, short)
 
 pub put-requires : goal.put-requires
 put-requires c =
     let few : c.args.steps < 65536 = omega (arith, c.ranges.steps) in
-    end_closing c.args.reason c.args.steps c.requires.holds_good c.requires.longest_in_bounds (few) c.put_start-at.ensures c.write.ensures (ap counted_values c.in-Count.is)
+    end_closing c.args.reason c.args.steps c.requires.holds_good c.requires.longest_in_bounds (few) c.put_start-at.ensures c.write.ensures (ap counted_values c.in-Ok.is)
 
-pub returns-in-Count : goal.returns-in-Count
-returns-in-Count c =
+pub returns-in-Ok : goal.returns-in-Ok
+returns-in-Ok c =
     let few : c.args.steps < 65536 = omega (arith, c.ranges.steps) in
-    end_written c.args.reason c.args.steps c.requires.holds_good c.requires.longest_in_bounds (few) c.put_start-at.ensures c.write.ensures (ap counted_values c.in-Count.is) c.put.ensures
+    end_written c.args.reason c.args.steps c.requires.holds_good c.requires.longest_in_bounds (few) c.put_start-at.ensures c.write.ensures (ap counted_values c.in-Ok.is) c.put.ensures
 
-pub returns-in-Refused : goal.returns-in-Refused
-returns-in-Refused c =
+pub returns-in-Err : goal.returns-in-Err
+returns-in-Err c =
     let few : c.args.steps < 65536 = omega (arith, c.ranges.steps) in
-    absurd (end_not_refused c.args.reason c.args.steps c.requires.holds_good c.requires.longest_in_bounds (few) c.put_start-at.ensures c.write.ensures c.in-Refused.r (ap (λ (v : Values). v.refusal) (ap counted_values c.in-Refused.is)))
+    absurd (end_not_refused c.args.reason c.args.steps c.requires.holds_good c.requires.longest_in_bounds (few) c.put_start-at.ensures c.write.ensures c.in-Err.r (ap (λ (v : Values). v.refusal) (ap counted_values c.in-Err.is)))

@@ -8,13 +8,13 @@ use Rattle.leaf.proofs.Calling.{run_not_refused, run_few, run_holds, run_written
 use Rattle.leaf.proofs.report.put_run.Goals as goal
 
 pub overflow_cast-steps : goal.overflow_cast-steps
-overflow_cast-steps c = omega (arith, run_few c.requires.loaded (zeros_hold small_limit) c.run.ensures c.in-Stopped.reason (ap ran_values c.in-Stopped.is))
+overflow_cast-steps c = omega (arith, run_few c.requires.loaded (zeros_hold small_limit) c.run.ensures c.in-Ok.end.reason (ap ran_values c.in-Ok.is))
 
 pub put_end-requires-clause-holds_good : goal.put_end-requires-clause-holds_good
-put_end-requires-clause-holds_good c = run_holds c.requires.loaded (zeros_hold small_limit) c.run.ensures c.in-Stopped.reason (ap ran_values c.in-Stopped.is)
+put_end-requires-clause-holds_good c = run_holds c.requires.loaded (zeros_hold small_limit) c.run.ensures c.in-Ok.end.reason (ap ran_values c.in-Ok.is)
 
-pub returns-in-Stopped : goal.returns-in-Stopped
-returns-in-Stopped c = run_written c.requires.loaded (zeros_hold small_limit) c.run.ensures c.in-Stopped.reason (ap ran_values c.in-Stopped.is) c.put_end.ensures
+pub returns-in-Ok : goal.returns-in-Ok
+returns-in-Ok c = run_written c.requires.loaded (zeros_hold small_limit) c.run.ensures c.in-Ok.end.reason (ap ran_values c.in-Ok.is) c.put_end.ensures
 
-pub returns-in-Refused : goal.returns-in-Refused
-returns-in-Refused c = absurd (run_not_refused c.requires.loaded (zeros_hold small_limit) c.run.ensures c.in-Refused.r (ap (λ (v : Values). v.refusal) (ap ran_values c.in-Refused.is)))
+pub returns-in-Err : goal.returns-in-Err
+returns-in-Err c = absurd (run_not_refused c.requires.loaded (zeros_hold small_limit) c.run.ensures c.in-Err.r (ap (λ (v : Values). v.refusal) (ap ran_values c.in-Err.is)))
