@@ -1,5 +1,6 @@
 -- The walk over a table as a function on its numbers, and what that function finds.
 use mathlib.Core.Path.{◌≡◌, refl, sym, ap, ◌∙◌}
+use mathlib.Core.Logic.{◌⊎◌, inl, inr}
 use mathlib.Core.Bool.{Bool, true, false, cond, ◌&&◌, false≢true, true≢false}
 use mathlib.Core.List.{List, [], ◌∷◌, ◌++◌, map, append_assoc, append-nil}
 use Prim.Native.Nat.{ℕ, suc, zero, ◌+◌, ◌-◌, ◌*◌, ◌≤◌, ◌<◌}
@@ -7,8 +8,8 @@ use native.Mathlib.Numerals.{add-one}
 use native.Mathlib.Omega.{arith}
 use borrow.Author.Tests.{ltb-true, eqb-true, lt-ltb, ne_eqb, leb-false, lt-leb}
 use lib.Dec.{eqb, ltb, leb}
-use lib.ListN.{length, get_or, take, drop, set, replicate, length-take, length-set, get_or-replicate, drop_of_length-le, get_or-eq_default}
-use lib.Seq.{slice, length-take-le, get_or-take, get_or-drop, get_or-set_same, drop-cons, drop-drop}
+use lib.ListN.{length, get_or, take, drop, set, length-take, length-set, drop_of_length-le, get_or-eq_default}
+use lib.Seq.{length-take-le, get_or-take, get_or-set_same, drop-cons, drop-drop}
 use Rattle.calculus.specs.Tree.{Sort, term, program, Pair, app, guard, unif, Head, code, at, Tree, empty, alt, bound, free, con, abs, fresh, two, pair_kind, numbers_of_head, preorder}
 use Rattle.calculus.specs.Good.{InRange, HeadInRange, constructors}
 use Rattle.calculus.specs.Calls.{TableOf}
@@ -17,6 +18,9 @@ use Rattle.calculus.proofs.Substitutes.{impossible}
 use Rattle.calculus.specs.Answers.{number}
 use Rattle.calculus.specs.declared.Refusal.TheVariants as refusal
 use Rattle.table.specs.Checks.{unbound, Walks, nothing, loose, scoped, ScopedIn, inside}
+use Rattle.table.specs.Kinds.{kind_code}
+use Rattle.table.specs.declared.kinds.Kind.{Kind}
+use Rattle.table.specs.declared.kinds.Kind.TheVariants.{Empty, Alternative, Bound, Free, Constructor, Abstraction, Allocated, Application, Fresh, Guard, Unification}
 use Rattle.table.specs.Nodes.{kind_at, number_at, NodeIs, parts}
 use Rattle.table.specs.Pending.{Want, want, kept, tests, may, last_part, wants, PartsPut}
 use Rattle.table.proofs.Trees.{here_node}
@@ -238,49 +242,63 @@ module _ (n : ℕ) (w : Bool) where
           go Loose e = accepted refl (sound _ _ true (λ f. impossible (cc)))
           go Scoped e = accepted refl (sound _ _ true (λ f. impossible (cc)))
 
--- a run of one value in a table
-pub run : {A : Type 0} (l : List A) (d : A) (lo hi k : ℕ) (x : A) → slice lo hi l ≡ replicate (hi - lo) x → lo ≤ k → k < hi → x ≡ get_or l k d
-run l d lo hi k x e h g =
-    let i : lo + (k - lo) ≡ k = omega arith in
-    sym (rw e (get_or-replicate (hi - lo) (k - lo) x d (omega arith))) ∙ get_or-drop lo (take hi l) (k - lo) d ∙ ap (λ (j : ℕ). get_or (take hi l) j d) i ∙ get_or-take hi l k d g
-
--- the runs of kinds as the code tests them
-module _ (n k m : ℕ) where
-  pub program_kinds : k < 2 → eqb m 0 ≡ may n program k m
+-- the kinds as the code tests them
+module _ (n m : ℕ) where
+  pub no_program : (k : ℕ) → 2 ≤ k → false ≡ may n program k m
   unfolding tests may
-  program_kinds h = run (tests n program m) false 0 2 k _ refl (omega arith) h
+  no_program k h = sym (get_or-eq_default (tests n program m) false h)
 
-  pub no_program_kinds : 2 ≤ k → false ≡ may n program k m
+  pub no_term : (k : ℕ) → 11 ≤ k → false ≡ may n term k m
   unfolding tests may
-  no_program_kinds h = sym (get_or-eq_default (tests n program m) false h)
+  no_term k h = sym (get_or-eq_default (tests n term m) false h)
 
-  pub early_kinds : k < 2 → false ≡ may n term k m
-  unfolding tests may
-  early_kinds h = run (tests n term m) false 0 2 k _ refl (omega arith) h
+  -- a number that no kind has
+  pub no_kind : (s : Sort) (k : ℕ) → 10 < k → false ≡ may n s k m
+  no_kind program k h = no_program k (omega arith)
+  no_kind term k h = no_term k (omega arith)
 
-  pub index_kinds : 2 ≤ k → k < 4 → ltb m n ≡ may n term k m
-  unfolding tests may
-  index_kinds h g = run (tests n term m) false 2 4 k _ refl h g
+  module _ (k : Kind) where
+    pub in_program : (k ≡ Empty) ⊎ (k ≡ Alternative) → eqb m 0 ≡ may n program (kind_code k) m
+    unfolding tests may
+    in_program (inl e) = rw e refl
+    in_program (inr e) = rw e refl
 
-  pub con_kind : k ≡ 4 → m < constructors → true ≡ may n term k m
-  unfolding tests may
-  con_kind e h = rw e (sym (lt-ltb m constructors h))
+    pub in_program_only : (k ≡ Empty) ⊎ (k ≡ Alternative) → false ≡ may n term (kind_code k) m
+    unfolding tests may
+    in_program_only (inl e) = rw e refl
+    in_program_only (inr e) = rw e refl
 
-  pub code_kind : k ≡ 5 → eqb m 0 ≡ may n term k m
-  unfolding tests may
-  code_kind e = rw e
+    pub ranged : (k ≡ Bound) ⊎ ((k ≡ Free) ⊎ (k ≡ Allocated)) → ltb m n ≡ may n term (kind_code k) m
+    unfolding tests may
+    ranged (inl e) = rw e refl
+    ranged (inr (inl e)) = rw e refl
+    ranged (inr (inr e)) = rw e refl
 
-  pub stored_kind : k ≡ 6 → ltb m n ≡ may n term k m
-  unfolding tests may
-  stored_kind e = rw e
+    pub constant : k ≡ Constructor → m < constructors → true ≡ may n term (kind_code k) m
+    unfolding tests may
+    constant e h = rw e (sym (lt-ltb m constructors h))
 
-  pub zero_kinds : 7 ≤ k → k < 11 → eqb m 0 ≡ may n term k m
-  unfolding tests may
-  zero_kinds h g = run (tests n term m) false 7 11 k _ refl h g
+    pub numberless : (k ≡ Abstraction) ⊎ ((k ≡ Application) ⊎ ((k ≡ Fresh) ⊎ ((k ≡ Guard) ⊎ (k ≡ Unification)))) → eqb m 0 ≡ may n term (kind_code k) m
+    unfolding tests may
+    numberless (inl e) = rw e refl
+    numberless (inr (inl e)) = rw e refl
+    numberless (inr (inr (inl e))) = rw e refl
+    numberless (inr (inr (inr (inl e)))) = rw e refl
+    numberless (inr (inr (inr (inr e)))) = rw e refl
 
-  pub late_kinds : 11 ≤ k → false ≡ may n term k m
-  unfolding tests may
-  late_kinds h = sym (get_or-eq_default (tests n term m) false h)
+-- a kind that is neither of a program's
+pub term_kinds : (k : Kind) → (k ≡ Empty → ⊥) → (k ≡ Alternative → ⊥) → 2 ≤ kind_code k
+term_kinds Empty f g = absurd (f refl)
+term_kinds Alternative f g = absurd (g refl)
+term_kinds Bound f g = omega arith
+term_kinds Free f g = omega arith
+term_kinds Constructor f g = omega arith
+term_kinds Abstraction f g = omega arith
+term_kinds Allocated f g = omega arith
+term_kinds Application f g = omega arith
+term_kinds Fresh f g = omega arith
+term_kinds Guard f g = omega arith
+term_kinds Unification f g = omega arith
 
 -- the last part, by the arms of the code's match
 module _ (within : Bool) (d k : ℕ) where
@@ -304,9 +322,19 @@ module _ (within : Bool) (d k : ℕ) where
   unfolding last_part
   last_fresh e = rw (e, add-one) refl
 
-  pub last_other : (k ≡ 1 → ⊥) → (k ≡ 5 → ⊥) → (k ≡ 6 → ⊥) → (k ≡ 8 → ⊥) → want term d ≡ last_part within d k
-  unfolding last_part
-  last_other a b f g = rw (ne_eqb k 1 a, ne_eqb k 5 b, ne_eqb k 6 f, ne_eqb k 8 g) refl
+pub last_other : (within : Bool) (d : ℕ) (k : Kind) → (k ≡ Alternative → ⊥) → (k ≡ Abstraction → ⊥) → (k ≡ Allocated → ⊥) → (k ≡ Fresh → ⊥) → want term d ≡ last_part within d (kind_code k)
+unfolding last_part
+last_other w d Alternative f g h i = absurd (f refl)
+last_other w d Abstraction f g h i = absurd (g refl)
+last_other w d Allocated f g h i = absurd (h refl)
+last_other w d Fresh f g h i = absurd (i refl)
+last_other w d Empty f g h i = refl
+last_other w d Bound f g h i = refl
+last_other w d Free f g h i = refl
+last_other w d Constructor f g h i = refl
+last_other w d Application f g h i = refl
+last_other w d Guard f g h i = refl
+last_other w d Unification f g h i = refl
 
 two_written : (n : ℕ) (l : List ℕ) (a b : ℕ) → suc (suc n) ≤ length l → drop n (set (set l (suc n) a) n b) ≡ b ∷ a ∷ drop (suc (suc n)) l
 two_written zero [] a b h = absurd (omega arith)

@@ -3,7 +3,7 @@ ghost use Rattle.std.specs.Prelude.{◌≡◌, ◌*◌, ◌≤◌, ◌<◌, leng
 ghost use Rattle.table.specs.Checks.{in_force, checked_number, Checks, NoneAllocated};
 
 use crate::closures::threads_agree;
-use crate::kinds::ALLOCATED;
+use crate::kinds::Kind;
 use crate::nodes::none_of;
 use crate::walk::{Scope, walk};
 use calculus::Refusal;
@@ -25,7 +25,7 @@ pub fn none_allocated(t: &[u16], count: usize) -> bool
     requires count_bound { count < 65536 }
     ensures { NoneAllocated t.now count result }
 {
-    none_of(&t[..2 * count], ALLOCATED)
+    none_of(&t[..2 * count], Kind::Allocated)
 }
 
 /// The first of the three conditions that holds, over the whole table, or none. The scratch is lent: what it holds afterwards says nothing.

@@ -3,7 +3,7 @@ ghost use Rattle.std.specs.Prelude.{◌≡◌, ◌≢◌, true, ℕ, IfSome, IfN
 ghost use Rattle.table.specs.Checks.{IsThread, BodiesAgree, ProgramIn, ThreadsAgree};
 ghost use Rattle.table.specs.Marks.{numbered};
 
-use crate::kinds::{ALLOCATED, EMPTY};
+use crate::kinds::Kind;
 use crate::nodes::{end_of, node_at, same_bodies};
 use calculus::Loc;
 
@@ -36,13 +36,13 @@ fn forget_locations(part: &[u16], limit: usize, first: &mut [u16])
     let end = part.len() / 2;
     for i in 0..end {
         let n = node_at(part, i);
-        if n.kind == ALLOCATED {
+        if n.is(Kind::Allocated) {
             keep_first(first, Loc(n.number), 0);
         }
     }
 }
 
-// Do any two allocated abstractions of a thread with one location have equal bodies? Each is compared with the first of its location.
+/// Do any two allocated abstractions of a thread with one location have equal bodies? Each is compared with the first of its location.
 pub fn bodies_agree(part: &[u16], limit: usize, first: &mut [u16]) -> bool
     requires thread { IsThread limit part.now }
     requires limit_in_bounds { limit ≤ length first.old }
@@ -54,7 +54,7 @@ pub fn bodies_agree(part: &[u16], limit: usize, first: &mut [u16]) -> bool
     for i in 0..end {
         let n = node_at(part, i);
         let body = i + 1;
-        if n.kind == ALLOCATED {
+        if n.is(Kind::Allocated) {
             let l = Loc(n.number);
             match first_of(first, l) {
                 None => keep_first(first, l, body),
@@ -69,7 +69,7 @@ pub fn bodies_agree(part: &[u16], limit: usize, first: &mut [u16]) -> bool
     true
 }
 
-// Do they in every thread of the program at the front?
+/// Do they in every thread of the program at the front?
 pub fn threads_agree(t: &[u16], limit: usize, first: &mut [u16]) -> bool
     requires program_in { ProgramIn limit t.now }
     requires limit_in_bounds { limit ≤ length first.old }
@@ -78,8 +78,7 @@ pub fn threads_agree(t: &[u16], limit: usize, first: &mut [u16]) -> bool
 {
     let mut at: usize = 0;
     loop {
-        let n = node_at(t, at);
-        if n.kind == EMPTY {
+        if node_at(t, at).is(Kind::Empty) {
             return true;
         }
         let start = at + 1;

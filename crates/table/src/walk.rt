@@ -2,13 +2,11 @@
 // What is still to stand is a lent stack that grows down, a cell each.
 ghost use Rattle.std.specs.Prelude.{◌≡◌, ◌+◌, ◌≤◌, ◌<◌, length};
 ghost use Rattle.table.specs.Checks.{checked_number, unbound, within, Walks};
+ghost use Rattle.table.specs.Kinds.{kind_code};
 ghost use Rattle.table.specs.Pending.{want, kept, sort_of, may, last_part, PartsPut};
 
-use crate::kinds::{
-    ABSTRACTION, ALLOCATED, ALTERNATIVE, APPLICATION, BOUND, CONSTRUCTOR, FREE, FRESH, GUARD,
-    UNIFICATION,
-};
-use crate::nodes::{Node, node_at, parts_of};
+use crate::kinds::Kind;
+use crate::nodes::node_at;
 use calculus::Refusal;
 
 /// Which binders count for what stands inside an allocated abstraction: every one around it, or only those inside it.
@@ -71,56 +69,58 @@ impl Wanted {
     }
 }
 
-// May a node stand where a tree of the sort must?
-fn may_stand(n: Node, sort: Sort, limit: usize) -> bool
-    ensures { result ≡ may limit (sort_of sort) n.kind n.number }
+// May a node of the kind, with the number m, stand where a tree of the sort must?
+fn may_stand(kind: Kind, m: u16, sort: Sort, limit: usize) -> bool
+    ensures { result ≡ may limit (sort_of sort) (kind_code kind) m }
 {
-    let k = n.kind;
-    let m = n.number as usize;
     match sort {
-        Sort::Program => k < BOUND && m == 0,
-        Sort::Term => match k {
-            BOUND | FREE | ALLOCATED => m < limit,
-            CONSTRUCTOR => true,
-            ABSTRACTION | APPLICATION | FRESH | GUARD | UNIFICATION => m == 0,
+        Sort::Program => match kind {
+            Kind::Empty | Kind::Alternative => m == 0,
             _ => false,
+        },
+        Sort::Term => match kind {
+            Kind::Empty | Kind::Alternative => false,
+            Kind::Bound | Kind::Free | Kind::Allocated => (m as usize) < limit,
+            Kind::Constructor => true,
+            Kind::Abstraction | Kind::Application | Kind::Fresh | Kind::Guard | Kind::Unification =>
+                m == 0,
         },
     }
 }
 
-// The last part of a node of the kind k, with d binders around it; a term with as many where that is no other.
-fn last_part(k: u16, d: u16, scope: Scope) -> Wanted
+// The last part of a node of the kind, with d binders around it; a term with as many where that is no other.
+fn last_part(kind: Kind, d: u16, scope: Scope) -> Wanted
     requires { d < 32767 }
-    ensures part { want (sort_of result.sort) result.binders ≡ last_part (within scope) d k }
+    ensures part { want (sort_of result.sort) result.binders ≡ last_part (within scope) d (kind_code kind) }
     ensures binders_bound { result.binders < 32768 }
 {
-    let (sort, binders) = match k {
-        ALTERNATIVE => (Sort::Program, d),
-        ABSTRACTION => (Sort::Program, d + 1),
-        ALLOCATED => match scope {
+    let (sort, binders) = match kind {
+        Kind::Alternative => (Sort::Program, d),
+        Kind::Abstraction => (Sort::Program, d + 1),
+        Kind::Allocated => match scope {
             Scope::Program => (Sort::Program, d + 1),
             Scope::Closures => (Sort::Program, 1),
         },
-        FRESH => (Sort::Term, d + 1),
+        Kind::Fresh => (Sort::Term, d + 1),
         _ => (Sort::Term, d),
     };
     Wanted { sort, binders }
 }
 
-// Puts the parts of a node of the kind k, with d binders around it, on top; gives the new top. A place below the top is free: both are written.
-fn put_parts(pending: &mut [u16], top: usize, k: u16, d: u16, scope: Scope) -> usize
+// Puts the parts of a node of the kind, with d binders around it, on top; gives the new top. A place below the top is free: both are written.
+fn put_parts(pending: &mut [u16], top: usize, kind: Kind, d: u16, scope: Scope) -> usize
     requires le_top { 2 ≤ top }
     requires top_in_bounds { top ≤ length pending.old }
     requires d_bound { d < 32767 }
-    ensures { PartsPut (within scope) d k top pending.old pending.new result }
+    ensures { PartsPut (within scope) d (kind_code kind) top pending.old pending.new result }
 {
     let first = Wanted {
         sort: Sort::Term,
         binders: d,
     };
-    pending[top - 1] = last_part(k, d, scope).cell();
+    pending[top - 1] = last_part(kind, d, scope).cell();
     pending[top - 2] = first.cell();
-    top - parts_of(k)
+    top - kind.parts()
 }
 
 /// One walk over the nodes: no program with its numbers in range is there, or an index has no binder, or neither.
@@ -149,13 +149,16 @@ pub fn walk(
         let wanted = Wanted::of(pending[top]);
         let d = wanted.binders;
         let n = node_at(t, at);
-        if !may_stand(n, wanted.sort, limit) {
+        let Ok(kind) = Kind::try_from(n.kind) else {
+            return Err(Refusal::NoProgram);
+        };
+        if !may_stand(kind, n.number, wanted.sort, limit) {
             return Err(Refusal::NoProgram);
         }
-        if n.kind == BOUND && d <= n.number {
+        if n.is(Kind::Bound) && d <= n.number {
             bound = false;
         }
-        top = put_parts(pending, top + 1, n.kind, d, scope);
+        top = put_parts(pending, top + 1, kind, d, scope);
     }
     if top != end {
         return Err(Refusal::NoProgram);

@@ -4,16 +4,16 @@ use Rattle.table.proofs.Positions.{numbered_node}
 use Rattle.table.proofs.Allocated.{met_here, met_in_range}
 use Rattle.table.proofs.Bodies.{forgotten_pass, forgotten_put}
 use Rattle.table.proofs.closures.forget_locations.Goals as goal
-use Rattle.table.proofs.closures.forget_locations.Goals.{then-n-eq-ALLOCATED, else-n-eq-ALLOCATED}
+use Rattle.table.proofs.closures.forget_locations.Goals.{then-is, else-is}
 
 pub keep_first-requires-clause-l_in_bounds : goal.keep_first-requires-clause-l_in_bounds
 keep_first-requires-clause-l_in_bounds c =
-    omega (arith, c.loop-i.invariant.same_size, met_in_range c.requires.thread (omega arith) (met_here _ c.node_at-n.ensures c.if-n-eq-ALLOCATED.true c.loop-i-test.true))
+    omega (arith, c.loop-i.invariant.same_size, met_in_range c.requires.thread (omega arith) (met_here _ c.node_at-n.ensures c.if-is.ensures c.loop-i-test.true))
 
 pub loop-i-preserved : goal.loop-i-preserved
-loop-i-preserved c = elim c.if-n-eq-ALLOCATED.branch [
-  | then-n-eq-ALLOCATED w ↦ rw (w.first-is, w.keep_first.ensures) (forgotten_put (c.node_at-n.ensures) (c.loop-i.invariant) (omega (arith, c.loop-i.invariant.same_size, met_in_range c.requires.thread (omega arith) (met_here _ c.node_at-n.ensures w.if-n-eq-ALLOCATED.true c.loop-i-test.true))))
-  | else-n-eq-ALLOCATED w ↦ rw w.first-is (forgotten_pass c.node_at-n.ensures c.loop-i.invariant w.if-n-eq-ALLOCATED.false)
+loop-i-preserved c = elim c.if-is.branch [
+  | then-is w ↦ rw (w.first-is, w.keep_first.ensures) (forgotten_put (c.node_at-n.ensures) (c.loop-i.invariant) (omega (arith, c.loop-i.invariant.same_size, met_in_range c.requires.thread (omega arith) (met_here _ c.node_at-n.ensures w.if-is.ensures c.loop-i-test.true))))
+  | else-is w ↦ rw w.first-is (forgotten_pass c.node_at-n.ensures c.loop-i.invariant w.if-is.ensures)
 ]
 
 pub returns : goal.returns

@@ -1,28 +1,21 @@
--- `table::walk::may_stand` meets its contract: each return's kinds are a run of the table.
-use borrow.Author.Tests.{le-ltb}
-use native.Mathlib.Omega.{arith}
-use mathlib.Core.Path.{◌∙◌}
-use Rattle.table.proofs.Scans.{program_kinds, no_program_kinds, early_kinds, index_kinds, con_kind, code_kind, stored_kind, zero_kinds, late_kinds}
+-- `table::walk::may_stand` meets its contract, arm by arm.
+use Rattle.table.proofs.Scans.{no_program, in_program, in_program_only, ranged, constant, numberless, term_kinds}
 use Rattle.table.proofs.walk.may_stand.Goals as goal
-use Rattle.table.proofs.walk.may_stand.Goals.{in-5-1, in_default+else-k-lt2+else-k-lt4+then-k-lt11, in-6-1, in_default+else-k-lt2+then-k-lt4}
 
-pub returns-then-k-lt-BOUND : goal.returns-then-k-lt-BOUND
-returns-then-k-lt-BOUND c = rw c.in-Program.is (program_kinds _ _ _ c.if-k-lt-BOUND.true)
-
-pub returns-else-k-lt-BOUND : goal.returns-else-k-lt-BOUND
-returns-else-k-lt-BOUND c = rw c.in-Program.is (le-ltb _ _ c.if-k-lt-BOUND.false ∙ no_program_kinds _ _ _ c.if-k-lt-BOUND.false)
-
-pub returns-in-4 : goal.returns-in-4
-returns-in-4 c = rw c.in-Term.is (con_kind _ _ _ c.in-4.is (omega arith))
+pub returns-in-Empty : goal.returns-in-Empty
+returns-in-Empty c = rw c.in-Program.is (in_program _ _ _ c.in-Empty.is)
 
 pub returns-in_default : goal.returns-in_default
-returns-in_default c = rw c.in-Term.is (early_kinds _ _ _ c.in_default.if-k-lt2-own.true)
+returns-in_default c = rw c.in-Program.is (no_program _ _ _ (term_kinds _ c.in_default.not-Empty c.in_default.not-Alternative))
 
-pub returns-in_default-2 : goal.returns-in_default-2
-returns-in_default-2 c = rw c.in-Term.is (late_kinds _ _ _ c.in_default.if-k-lt11-own.false)
+pub returns-in-Empty-kind : goal.returns-in-Empty-kind
+returns-in-Empty-kind c = rw c.in-Term.is (in_program_only _ _ _ c.in-Empty-kind.is)
 
-pub returns-in-5 : goal.returns-in-5
-returns-in-5 c = rw c.in-Term.is (elim c.in-5-1.branch [ in-5-1 w ↦ code_kind _ _ _ w.in-5-1.keys3 | in_default+else-k-lt2+else-k-lt4+then-k-lt11 w ↦ zero_kinds _ _ _ (omega arith) w.if-k-lt11-1.true ])
+pub returns-in-Bound : goal.returns-in-Bound
+returns-in-Bound c = rw c.in-Term.is (ranged _ _ _ c.in-Bound.is)
 
-pub returns-in-2 : goal.returns-in-2
-returns-in-2 c = rw c.in-Term.is (elim c.in-2-1.branch [ in-6-1 w ↦ stored_kind _ _ _ w.in-6-1.keys1 | in_default+else-k-lt2+then-k-lt4 w ↦ index_kinds _ _ _ w.if-k-lt2-1.false w.if-k-lt4-1.true ])
+pub returns-in-Constructor : goal.returns-in-Constructor
+returns-in-Constructor c = rw c.in-Term.is (constant _ _ _ c.in-Constructor.is c.ranges.m.fits)
+
+pub returns-in-Abstraction : goal.returns-in-Abstraction
+returns-in-Abstraction c = rw c.in-Term.is (numberless _ _ _ c.in-Abstraction.is)
