@@ -8,7 +8,7 @@ ghost use Rattle.threads.specs.Places.{thread_behind, ProgramAt, place_values, P
 
 use column::check::check_with;
 use column::sizes::size_at;
-use table::kinds::EMPTY;
+use table::kinds::Kind;
 use table::nodes::node_at;
 
 /// A part of a table: its first number, and how many numbers.
@@ -23,7 +23,7 @@ fn thread_behind(t: &[u16], at: usize) -> Option<usize>
     requires { 2 * at + 2 ≤ length t.now }
     ensures { result ≡ thread_behind t.now at }
 {
-    if node_at(t, at).kind == EMPTY {
+    if node_at(t, at).is(Kind::Empty) {
         return None;
     }
     Some(at + 1)
