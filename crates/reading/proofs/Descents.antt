@@ -28,12 +28,15 @@ use Rattle.reading.specs.declared.goals.Waiting.{Waiting}
 use Rattle.reading.specs.declared.parse.Met.{Met}
 use Rattle.reading.specs.declared.parse.Parser.{Parser}
 use Rattle.reading.specs.Reading.{none_found, Parses, out, bad, loose, of_nodes}
+use Rattle.table.specs.Kinds.{kind_code}
+use Rattle.table.specs.declared.kinds.Kind.{Kind}
+use Rattle.table.specs.declared.kinds.Kind.TheVariants.{Empty, Alternative, Bound, Free, Constructor, Abstraction, Allocated, Application, Fresh, Guard, Unification}
 use Rattle.reading.specs.Descent.{Between, AtomBetween, Note, no_node, node_note, followed, number_note, note, Keeps, Noted, ToRead, kind, number, bracket, one_term, members, Fill, spelled, noted, Fills, spelled_all, noted_all, Passes, Leads, ReadsOn, Beyond, Ahead, Descends, Row, tag, node_of, Heads, row, no_row, ends, waiting, cells_of, Pushes, Announces, GoalsStacked, BeforeGoal, BeforeTerm, Tops, Follows, Advances, FoundAt, Descent, Turn, SameParse}
 use Rattle.reading.proofs.Decimals.{not_plain}
 use Rattle.reading.proofs.Grammar.{parts, tag_injective, followed_assoc, followed_none, followed_end, term_of, term_spelled, term_noted, made, tagged, program_of, program_spelled, program_noted, member, note_read, note_unread, Told, told, treed}
 use Rattle.reading.proofs.Stacks.{next_goal, next_end, tag_long, announced_parts}
 
-impossible : {A : Type 0} → ◌≡◌ {A = ℕ} 0 1 → A
+pub impossible : {A : Type 0} → ◌≡◌ {A = ℕ} 0 1 → A
 impossible e = absurd (omega arith)
 
 -- Items.
@@ -124,6 +127,20 @@ module _ {k v : ℕ} {m : Met} {b b' : List ℕ} where
   -- or it is counted only
   pub node_counted : b' ≡ b → length b / 2 ≤ m.nodes → Noted k v m b (record { nodes = m.nodes + 1; bad = m.bad; loose = m.loose }) b'
   node_counted e h = keep_node (ap length e) (λ l. absurd (omega arith))
+
+-- only an index has its number
+pub index_kind : (k : Kind) → kind_code k ≡ 2 → k ≡ Bound
+index_kind Empty e = absurd (omega arith)
+index_kind Alternative e = absurd (omega arith)
+index_kind Bound e = refl
+index_kind Free e = absurd (omega arith)
+index_kind Constructor e = absurd (omega arith)
+index_kind Abstraction e = absurd (omega arith)
+index_kind Allocated e = absurd (omega arith)
+index_kind Application e = absurd (omega arith)
+index_kind Fresh e = absurd (omega arith)
+index_kind Guard e = absurd (omega arith)
+index_kind Unification e = absurd (omega arith)
 
 -- a node whose N is bad is counted
 keep_bad : (k v : ℕ) (l : Bool) (w : Note) {m : Met} {b : List ℕ} → Keeps w m b → Keeps (followed w (node_note k v true l)) (record { nodes = m.nodes + 1; bad = true; loose = m.loose }) b

@@ -1,5 +1,6 @@
 // One descent over the grammar. It gives 4 at once, and carries on for 5, 6 and 7 to the end of the text, past the node limit.
 ghost use Rattle.std.specs.Prelude.{◌≡◌, [], ◌∷◌, ℕ, ◌+◌, ◌^◌, ◌<◌, ◌≤◌, length, Some};
+ghost use Rattle.table.specs.Kinds.{kind_code};
 ghost use Rattle.reading.specs.Reading.{Parses, parsed_values};
 ghost use Rattle.reading.specs.Descent.{Noted, Heads, Tops, Ahead, Follows, Descends, number, one_term, descent_of, goals_of, Ready, TermReady, Turned, SameParse, Stays};
 
@@ -8,10 +9,7 @@ use crate::items::{atom_at, close_at, open_at, tag_at};
 use crate::numbers::number_in;
 use calculus::Refusal;
 use csexp::Cursor;
-use table::kinds::{
-    ABSTRACTION, ALLOCATED, ALTERNATIVE, APPLICATION, BOUND, CONSTRUCTOR, EMPTY, FREE, FRESH,
-    GUARD, UNIFICATION,
-};
+use table::kinds::Kind;
 use table::nodes::put_node;
 
 // What a descent has met: the nodes, and whether an N was bad or an index without its binder.
@@ -37,22 +35,22 @@ struct Parser<'a> {
 
 impl<'a> Parser<'a> {
     // One more node, stored where there is room for it and counted in any case.
-    fn put(&mut self, kind: u16, number: u16)
+    fn put(&mut self, kind: Kind, number: u16)
         requires { self.old.met.nodes < 2 ^ 63 }
-        ensures noted { Noted kind number self.old.met self.old.build.now self.new.met self.new.build.now }
+        ensures noted { Noted (kind_code kind) number self.old.met self.old.build.now self.new.met self.new.build.now }
         ensures cursor { self.new.cursor ≡ self.old.cursor }
         ensures stays { Stays self.old self.new }
     {
         if self.met.nodes < self.build.len() / 2 {
-            put_node(self.build, self.met.nodes, kind, number);
+            put_node(self.build, self.met.nodes, kind.code(), number);
         }
         self.met.nodes += 1;
     }
 
     // The N of a node of this kind, below its bound. An index has its binder among those around it.
-    fn number(&mut self, kind: u16, below: usize) -> Option<()>
+    fn number(&mut self, kind: Kind, below: usize) -> Option<()>
         requires { (below ≤ 65536) × (self.old.met.nodes ≤ self.old.cursor.at) }
-        ensures descends { (n : ℕ) → Descends n self.old.text.now (number kind below self.old.ahead.binders ∷ []) self.old.cursor self.old.met self.old.build.now (descent_of result self.new) self.new.build.now }
+        ensures descends { (n : ℕ) → Descends n self.old.text.now (number (kind_code kind) below self.old.ahead.binders ∷ []) self.old.cursor self.old.met self.old.build.now (descent_of result self.new) self.new.build.now }
         ensures stays { Stays self.old self.new }
     {
         let (place, n, next) = atom_at(self.text, self.cursor)?;
@@ -63,7 +61,7 @@ impl<'a> Parser<'a> {
             return Some(());
         };
         self.put(kind, v);
-        if kind == BOUND && self.ahead.binders <= v as usize {
+        if matches!(kind, Kind::Bound) && self.ahead.binders <= v as usize {
             self.met.loose = true;
         }
         Some(())
@@ -76,15 +74,15 @@ impl<'a> Parser<'a> {
         ensures stays { Stays self.old self.new }
     {
         match tag {
-            b'v' => self.number(BOUND, self.limit)?,
-            b'x' => self.number(FREE, self.limit)?,
-            b'c' => self.number(CONSTRUCTOR, 65536)?,
-            b'l' => self.put(ABSTRACTION, 0),
-            b'L' => self.number(ALLOCATED, self.limit)?,
-            b'n' => self.put(FRESH, 0),
-            b'a' => self.put(APPLICATION, 0),
-            b'g' => self.put(GUARD, 0),
-            b'u' => self.put(UNIFICATION, 0),
+            b'v' => self.number(Kind::Bound, self.limit)?,
+            b'x' => self.number(Kind::Free, self.limit)?,
+            b'c' => self.number(Kind::Constructor, 65536)?,
+            b'l' => self.put(Kind::Abstraction, 0),
+            b'L' => self.number(Kind::Allocated, self.limit)?,
+            b'n' => self.put(Kind::Fresh, 0),
+            b'a' => self.put(Kind::Application, 0),
+            b'g' => self.put(Kind::Guard, 0),
+            b'u' => self.put(Kind::Unification, 0),
             _ => return None,
         }
         Some(())
@@ -112,11 +110,11 @@ impl<'a> Parser<'a> {
     {
         if let Some(next) = close_at(self.text, self.cursor) {
             self.cursor = next;
-            self.put(EMPTY, 0);
+            self.put(Kind::Empty, 0);
             self.ahead.top += 1;
             return Some(());
         }
-        self.put(ALTERNATIVE, 0);
+        self.put(Kind::Alternative, 0);
         self.term()
     }
 

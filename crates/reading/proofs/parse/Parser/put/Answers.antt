@@ -6,4 +6,4 @@ use Rattle.reading.proofs.parse.Parser.put.Goals as goal
 use Rattle.reading.proofs.parse.Parser.put.Goals.{then-self, else-self}
 
 pub returns-clause-noted : goal.returns-clause-noted
-returns-clause-noted c = elim c.if-self.branch [ then-self w ↦ rw w.self-is (node_stored w.put_node.ensures) | else-self w ↦ rw w.self-is (node_counted refl (omega arith)) ]
+returns-clause-noted c = elim c.if-self.branch [ then-self w ↦ rw (w.self-is, ← w.code.ensures) (node_stored w.put_node.ensures) | else-self w ↦ rw w.self-is (node_counted refl (omega arith)) ]
