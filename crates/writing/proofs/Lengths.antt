@@ -5,13 +5,17 @@ use mathlib.Core.List.{List, [], ◌∷◌, ◌++◌, append_assoc}
 use Prim.Native.Nat.{ℕ, zero, suc, ◌+◌, ◌*◌, ◌/◌, ◌^◌, ◌≤◌, ◌<◌}
 use native.Mathlib.Nat.{pow-suc, one-le-pow}
 use native.Mathlib.Omega.{arith}
-use lib.ListN.{length, get_or, drop, length-append}
+use lib.ListN.{length, get_or, drop, length-append, get_or-eq_default}
 use lib.Seq.{drop_at}
 use Rattle.calculus.specs.Tree.{Sort, term, program, Pair, app, guard, unif, code, at, Tree, empty, alt, bound, free, con, abs, fresh, two, pair_kind, nodes, preorder}
 use Rattle.calculus.specs.Sexp.{decimal}
 use Rattle.calculus.proofs.Decimals.{decimal_small, decimal_large}
 use Rattle.calculus.proofs.Preorders.{preorder_length}
 use Rattle.table.specs.Nodes.{NodeIs}
+use Rattle.table.specs.Kinds.{kind_code}
+use Rattle.table.specs.declared.kinds.Kind.{Kind}
+use Rattle.table.specs.declared.kinds.Kind.TheVariants.{Empty, Alternative}
+use Rattle.table.proofs.Scans.{term_kinds}
 use Rattle.table.proofs.Trees.{here_node, one_tree, ends_in}
 use Rattle.writing.specs.Writing.{CountedProgram, TextLength}
 use Rattle.writing.specs.Writer.{DigitCount, has_number, head_bytes, node_bytes, NodeBytes, spelt}
@@ -42,19 +46,28 @@ other_kind zero d f g = absurd (f refl)
 other_kind (suc zero) d f g = absurd (g refl)
 other_kind (suc (suc k)) d f g = refl
 
-module _ (k n : ℕ) {r : Bool} (f : k ≡ 0 → ⊥) (g : k ≡ 1 → ⊥) (e : r ≡ get_or has_number k false) where
+module _ (k : Kind) {j : ℕ} (n : ℕ) {r : Bool} (i : kind_code k ≡ j) (f : k ≡ Empty → ⊥) (g : k ≡ Alternative → ⊥) (e : r ≡ get_or has_number (kind_code k) false) where
+  -- but for the two of programs, a node's bytes are its head's and a closing bracket
+  by_head : node_bytes (kind_code k) n ≡ length (head_bytes (kind_code k) n) + 1
+  by_head = other_kind (kind_code k) (length (head_bytes (kind_code k) n) + 1) (λ z. omega (arith, term_kinds k f g)) (λ z. omega (arith, term_kinds k f g))
+
   -- a node without a number is five bytes
-  pub plain_bytes : r ≡ false → NodeBytes k n 5
+  pub plain_bytes : r ≡ false → NodeBytes j n 5
   unfolding head_bytes
-  plain_bytes t = record { is = sym (other_kind k (length (head_bytes k n) + 1) f g ∙ rw (← e, t)); few = omega arith }
+  plain_bytes t = rw (← i) (record { is = sym (by_head ∙ rw (← e, t)); few = omega arith })
 
   -- one with a number is seven and its digits
-  pub numbered_bytes : {d : ℕ} → r ≡ true → n < 65536 → DigitCount n d → NodeBytes k n (7 + d)
+  pub numbered_bytes : {d : ℕ} → r ≡ true → n < 65536 → DigitCount n d → NodeBytes j n (7 + d)
   unfolding head_bytes
-  numbered_bytes t h c = record {
-    is = sym (other_kind k (length (head_bytes k n) + 1) f g ∙ rw (← e, t, numeral_is n h) (omega arith));
+  numbered_bytes t h c = rw (← i) (record {
+    is = sym (by_head ∙ rw (← e, t, numeral_is n h) (omega arith));
     few = omega arith;
-  }
+  })
+
+-- a number that no kind has counts as one without a number
+pub strange_bytes : (j n : ℕ) → 10 < j → NodeBytes j n 5
+unfolding head_bytes
+strange_bytes j n h = record { is = sym (other_kind j (length (head_bytes j n) + 1) (λ z. omega arith) (λ z. omega arith) ∙ rw (get_or-eq_default has_number false {n = j} (omega arith))); few = omega arith }
 
 -- A tree.
 

@@ -1,5 +1,6 @@
 -- The pieces of a text that are still to be written: their cells on the stack, and what a turn makes of the first one.
 use mathlib.Core.Path.{◌≡◌, refl, sym, ap, ◌∙◌}
+use mathlib.Core.Logic.{◌⊎◌, inl, inr}
 use mathlib.Core.List.{List, [], ◌∷◌, ◌++◌, append_assoc}
 use Prim.Native.Nat.{ℕ, ◌+◌, ◌-◌, ◌*◌, ◌≤◌, ◌<◌}
 use native.Mathlib.Omega.{arith}
@@ -7,11 +8,14 @@ use lib.ListN.{length, get_or, length-append}
 use lib.Seq.{sets}
 use Rattle.calculus.specs.Tree.{term, program, Tree, empty, alt, nodes}
 use Rattle.calculus.proofs.Preorders.{nodes_positive}
-use Rattle.table.specs.Nodes.{NodeIs, Stands}
+use Rattle.table.specs.Nodes.{NodeIs, Stands, parts}
+use Rattle.table.specs.Kinds.{kind_code}
+use Rattle.table.specs.declared.kinds.Kind.{Kind}
+use Rattle.table.specs.declared.kinds.Kind.TheVariants.{Empty, Alternative, Bound, Free, Constructor, Abstraction, Allocated, Application, Fresh, Guard, Unification}
 use Rattle.table.proofs.Trees.{IsAlt, alt_at, program_at, one_tree, in_table}
 use Rattle.writing.specs.Writing.{RoomForText, CellsForText, TextWritten}
 use Rattle.writing.specs.Writer.{head_bytes, spelt, BytesFit, Wrote, Pushed, Piece, a_term, a_rest, closing, cell, spelt_all, StandAll, cells_for, Stacked, ToCome, Unwritten, InHand, Asked, Put}
-use Rattle.writing.specs.declared.write.Piece.{Piece as Kind}
+use Rattle.writing.specs.declared.write.Piece.{Piece as Code}
 use Rattle.writing.specs.declared.write.Piece.TheVariants.{Rest}
 use Rattle.writing.specs.Cells.{code}
 use Rattle.writing.proofs.Written.{sets_append, wrote_none, wrote_more, bracketed_length, inner, TermNode, term_node, Parts, parts_at, members_alt, members_empty, text_is}
@@ -142,7 +146,7 @@ module _ {t out stack : List ℕ} {c at to cells : ℕ} (e : c ≡ 2) where
 member_all : {p q : Tree program} {x : Tree term} → p ≡ alt x q → (l : List Piece) → spelt_all (a_rest p ∷ l) ≡ spelt_all (a_term x ∷ a_rest q ∷ l)
 member_all {q} {x} e l = rw (e, members_alt x q, append_assoc)
 
-module _ {t out stack : List ℕ} {at to cells : ℕ} {piece : Kind} (r : piece ≡ Rest) where
+module _ {t out stack : List ℕ} {at to cells : ℕ} {piece : Code} (r : piece ≡ Rest) where
   -- it stands in the table
   pub rest_inside : Asked (code piece) t at out to stack cells → 2 * at + 2 ≤ length t
   rest_inside a = let f = first_rest (ap code r) a.in_hand in in_table f.to_come.stand.0
@@ -210,6 +214,54 @@ module _ {t out stack : List ℕ} {at to cells : ℕ} {piece : Kind} (r : piece 
 
 -- A term.
 
+-- a node by its kind
+of_kind : {t : List ℕ} {at j m : ℕ} (k : Kind) → kind_code k ≡ j → NodeIs t at j m → NodeIs t at (kind_code k) m
+of_kind k e i = rw e i
+
+-- a kind without parts, one with some, the two with a program, and those with two terms
+no_parts : (k : Kind) → get_or parts (kind_code k) 0 ≡ 0 → kind_code k < 5
+no_parts Empty h = omega arith
+no_parts Alternative h = absurd (omega arith)
+no_parts Bound h = omega arith
+no_parts Free h = omega arith
+no_parts Constructor h = omega arith
+no_parts Abstraction h = absurd (omega arith)
+no_parts Allocated h = absurd (omega arith)
+no_parts Application h = absurd (omega arith)
+no_parts Fresh h = absurd (omega arith)
+no_parts Guard h = absurd (omega arith)
+no_parts Unification h = absurd (omega arith)
+
+some_parts : (k : Kind) → 2 ≤ kind_code k → (get_or parts (kind_code k) 0 ≡ 0 → ⊥) → 5 ≤ kind_code k
+some_parts Empty l h = absurd (omega arith)
+some_parts Alternative l h = absurd (omega arith)
+some_parts Bound l h = absurd (h refl)
+some_parts Free l h = absurd (h refl)
+some_parts Constructor l h = absurd (h refl)
+some_parts Abstraction l h = omega arith
+some_parts Allocated l h = omega arith
+some_parts Application l h = omega arith
+some_parts Fresh l h = omega arith
+some_parts Guard l h = omega arith
+some_parts Unification l h = omega arith
+
+a_body : {k : Kind} → (k ≡ Abstraction) ⊎ (k ≡ Allocated) → (5 ≤ kind_code k) × (kind_code k < 7)
+a_body (inl e) = rw e (omega arith, omega arith)
+a_body (inr e) = rw e (omega arith, omega arith)
+
+two_terms : (k : Kind) → 5 ≤ kind_code k → (k ≡ Abstraction → ⊥) → (k ≡ Allocated → ⊥) → (k ≡ Fresh → ⊥) → (7 ≤ kind_code k) × (kind_code k ≡ 8 → ⊥)
+two_terms Empty l f g h = absurd (omega arith)
+two_terms Alternative l f g h = absurd (omega arith)
+two_terms Bound l f g h = absurd (omega arith)
+two_terms Free l f g h = absurd (omega arith)
+two_terms Constructor l f g h = absurd (omega arith)
+two_terms Abstraction l f g h = absurd (f refl)
+two_terms Allocated l f g h = absurd (g refl)
+two_terms Application l f g h = (omega arith, λ e. omega arith)
+two_terms Fresh l f g h = absurd (h refl)
+two_terms Guard l f g h = (omega arith, λ e. omega arith)
+two_terms Unification l f g h = (omega arith, λ e. omega arith)
+
 -- with what it begins with at least a byte is written
 head_later : (k m : ℕ) {out mid : List ℕ} {to byte : ℕ} → Wrote out mid to byte (head_bytes k m) → to < byte
 unfolding head_bytes
@@ -228,49 +280,58 @@ module _ {t out stack : List ℕ} {at to cells : ℕ} where
   term_bytes : {last : List ℕ} (f : TermFirst t last at out to stack cells) → to + length (spelt f.tree) ≤ length out
   term_bytes f = let w = simp length-append at f.to_come.room.fits in omega arith
 
-  module _ {k m : ℕ} (n : NodeIs t at k m) where
-    node_of : {last : List ℕ} (f : TermFirst t last at out to stack cells) → TermNode k m f.tree
-    node_of f = term_node n f.tree f.to_come.stand.0
+  -- a kind stands there
+  pub kind_there : {j m : ℕ} → NodeIs t at j m → Asked 0 t at out to stack cells → j < 11
+  kind_there i a = let f = first_term refl a.in_hand in (term_node i f.tree f.to_come.stand.0).small
 
-    parts_of : {last : List ℕ} (f : TermFirst t last at out to stack cells) → Parts t at f.tree k
-    parts_of f = parts_at n f.tree f.to_come.stand.0
+  -- there is room for a cell
+  pub close_cell : Asked 0 t at out to stack cells → cells < length stack
+  close_cell a = let f = first_term refl a.in_hand in omega (arith, term_cells f, nodes_positive f.tree)
+
+  module _ (k : Kind) {j m : ℕ} (e : kind_code k ≡ j) (i : NodeIs t at j m) where
+    node_of : {last : List ℕ} (f : TermFirst t last at out to stack cells) → TermNode (kind_code k) m f.tree
+    node_of f = term_node (of_kind k e i) f.tree f.to_come.stand.0
+
+    parts_of : {last : List ℕ} (f : TermFirst t last at out to stack cells) → Parts t at f.tree (kind_code k)
+    parts_of f = parts_at (of_kind k e i) f.tree f.to_come.stand.0
+
+    -- one with parts is an abstraction, or has terms
+    with_parts : {last : List ℕ} (f : TermFirst t last at out to stack cells) {r : ℕ} → r ≡ get_or parts (kind_code k) 0 → (r ≡ 0 → ⊥) → 5 ≤ kind_code k
+    with_parts f q z = some_parts k (node_of f).large (λ v. z (q ∙ v))
 
     -- there is room for what it begins with
-    pub head_asked : Asked 0 t at out to stack cells → BytesFit out to (head_bytes k m)
+    pub head_asked : Asked 0 t at out to stack cells → BytesFit out to (head_bytes (kind_code k) m)
     head_asked a = let f = first_term refl a.in_hand in record { fits = omega (arith, term_bytes f, (node_of f).lengths) }
-
-    -- and for a cell
-    pub close_cell : Asked 0 t at out to stack cells → cells < length stack
-    close_cell a = let f = first_term refl a.in_hand in omega (arith, term_cells f, nodes_positive f.tree)
 
     module _ {s₁ : List ℕ} {c₁ : ℕ} (p₁ : Pushed stack s₁ cells c₁ 2) where
       -- a kind with parts: for one more
-      pub part_cell : 5 ≤ k → Asked 0 t at out to stack cells → c₁ < length s₁
-      part_cell l a = let f = first_term refl a.in_hand in omega (arith, term_cells f, (parts_of f).some l)
+      pub part_cell : {r : ℕ} → r ≡ get_or parts (kind_code k) 0 → (r ≡ 0 → ⊥) → Asked 0 t at out to stack cells → c₁ < length s₁
+      part_cell q z a = let f = first_term refl a.in_hand in omega (arith, term_cells f, (parts_of f).some (with_parts f q z))
 
       -- a pair: for a third one
-      pub second_cell : {s₂ : List ℕ} {c₂ : ℕ} → Pushed s₁ s₂ c₁ c₂ 0 → 7 ≤ k → (k ≡ 8 → ⊥) → Asked 0 t at out to stack cells → c₂ < length s₂
-      second_cell p₂ l u a =
+      pub second_cell : {s₂ : List ℕ} {c₂ r : ℕ} → Pushed s₁ s₂ c₁ c₂ 0 → r ≡ get_or parts (kind_code k) 0 → (r ≡ 0 → ⊥) → (k ≡ Abstraction → ⊥) → (k ≡ Allocated → ⊥) → (k ≡ Fresh → ⊥) → Asked 0 t at out to stack cells → c₂ < length s₂
+      second_cell p₂ p z g h o a =
           let f = first_term refl a.in_hand in
-          let q = (parts_of f).double l u in
+          let l = two_terms k (with_parts f p z) g h o in
+          let q = (parts_of f).double l.0 l.1 in
           omega (arith, term_cells f, nodes_positive q.first, nodes_positive q.second)
 
     -- its bytes
-    term_all : {last : List ℕ} (f : TermFirst t last at out to stack cells) → spelt_all (a_term f.tree ∷ f.others) ≡ head_bytes k m ++ (inner f.tree ++ (41 ∷ spelt_all f.others))
+    term_all : {last : List ℕ} (f : TermFirst t last at out to stack cells) → spelt_all (a_term f.tree ∷ f.others) ≡ head_bytes (kind_code k) m ++ (inner f.tree ++ (41 ∷ spelt_all f.others))
     term_all f = rw (node_of f).is (simp append_assoc)
 
-    module _ {mid : List ℕ} {byte : ℕ} (w : Wrote out mid to byte (head_bytes k m)) where
+    module _ {mid : List ℕ} {byte : ℕ} (w : Wrote out mid to byte (head_bytes (kind_code k) m)) where
       -- behind it there is room for a byte
       pub bracket_room : (b : ℕ) → Asked 0 t at out to stack cells → BytesFit mid byte (b ∷ [])
       bracket_room b a = let f = first_term refl a.in_hand in record { fits = omega (arith, term_bytes f, (node_of f).lengths) }
 
       -- a kind without parts: with the closing bracket all is written
-      pub leaf_put : {after : List ℕ} {next : ℕ} → k < 5 → Wrote mid after byte next (41 ∷ []) → Put 0 t at out to stack cells after stack (at + 1) next cells
-      leaf_put l v = record {
-        later = omega (arith, head_later k m w);
+      pub leaf_put : {after : List ℕ} {next r : ℕ} → r ≡ get_or parts (kind_code k) 0 → r ≡ 0 → Wrote mid after byte next (41 ∷ []) → Put 0 t at out to stack cells after stack (at + 1) next cells
+      leaf_put p z v = record {
+        later = omega (arith, head_later (kind_code k) m w);
         then_on = λ last h.
             let f = first_term refl h in
-            let q = (parts_of f).none l in
+            let q = (parts_of f).none (no_parts k (sym p ∙ z)) in
             record {
               pieces = f.others;
               stacked = f.stacked;
@@ -280,12 +341,12 @@ module _ {t out stack : List ℕ} {at to cells : ℕ} where
 
       module _ {s₁ : List ℕ} {c₁ : ℕ} (p₁ : Pushed stack s₁ cells c₁ 2) where
         -- an abstraction: the opening bracket is written, the members of its body are left
-        pub body_put : {after s₂ : List ℕ} {next c₂ : ℕ} → 5 ≤ k → k < 7 → Wrote mid after byte next (40 ∷ []) → Pushed s₁ s₂ c₁ c₂ 1 → Put 0 t at out to stack cells after s₂ (at + 1) next c₂
-        body_put l u v p₂ = record {
-          later = omega (arith, head_later k m w);
+        pub body_put : {after s₂ : List ℕ} {next c₂ : ℕ} → (k ≡ Abstraction) ⊎ (k ≡ Allocated) → Wrote mid after byte next (40 ∷ []) → Pushed s₁ s₂ c₁ c₂ 1 → Put 0 t at out to stack cells after s₂ (at + 1) next c₂
+        body_put l v p₂ = record {
+          later = omega (arith, head_later (kind_code k) m w);
           then_on = λ last h.
               let f = first_term refl h in
-              let q = (parts_of f).body l u in
+              let q = (parts_of f).body (a_body l).0 (a_body l).1 in
               record {
                 pieces = a_rest q.part ∷ closing ∷ f.others;
                 stacked = more (a_rest q.part) (closing ∷ f.others) (more closing f.others f.stacked p₁) p₂;
@@ -295,12 +356,12 @@ module _ {t out stack : List ℕ} {at to cells : ℕ} where
 
         module _ {s₂ : List ℕ} {c₂ : ℕ} (p₂ : Pushed s₁ s₂ c₁ c₂ 0) where
           -- a fresh node: its term is left
-          pub fresh_put : k ≡ 8 → Put 0 t at out to stack cells mid s₂ (at + 1) byte c₂
-          fresh_put e = record {
-            later = head_later k m w;
+          pub fresh_put : k ≡ Fresh → Put 0 t at out to stack cells mid s₂ (at + 1) byte c₂
+          fresh_put g = record {
+            later = head_later (kind_code k) m w;
             then_on = λ last h.
                 let f = first_term refl h in
-                let q = (parts_of f).single e in
+                let q = (parts_of f).single (ap kind_code g) in
                 record {
                   pieces = a_term q.part ∷ closing ∷ f.others;
                   stacked = more (a_term q.part) (closing ∷ f.others) (more closing f.others f.stacked p₁) p₂;
@@ -309,12 +370,13 @@ module _ {t out stack : List ℕ} {at to cells : ℕ} where
           }
 
           -- a pair: its two terms are left
-          pub pair_put : {s₃ : List ℕ} {c₃ : ℕ} → 7 ≤ k → (k ≡ 8 → ⊥) → Pushed s₂ s₃ c₂ c₃ 0 → Put 0 t at out to stack cells mid s₃ (at + 1) byte c₃
-          pair_put l u p₃ = record {
-            later = head_later k m w;
-            then_on = λ last h.
-                let f = first_term refl h in
-                let q = (parts_of f).double l u in
+          pub pair_put : {s₃ : List ℕ} {c₃ r : ℕ} → r ≡ get_or parts (kind_code k) 0 → (r ≡ 0 → ⊥) → (k ≡ Abstraction → ⊥) → (k ≡ Allocated → ⊥) → (k ≡ Fresh → ⊥) → Pushed s₂ s₃ c₂ c₃ 0 → Put 0 t at out to stack cells mid s₃ (at + 1) byte c₃
+          pair_put p z g h o p₃ = record {
+            later = head_later (kind_code k) m w;
+            then_on = λ last a.
+                let f = first_term refl a in
+                let l = two_terms k (with_parts f p z) g h o in
+                let q = (parts_of f).double l.0 l.1 in
                 let x = q.first in
                 let y = q.second in
                 record {

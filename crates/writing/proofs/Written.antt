@@ -195,8 +195,20 @@ kind_small (two app x y) = omega arith
 kind_small (two guard x y) = omega arith
 kind_small (two unif x y) = omega arith
 
+kind_large : (x : Tree term) → 2 ≤ kind_of x
+kind_large (bound i) = omega arith
+kind_large (free x) = omega arith
+kind_large (con c) = omega arith
+kind_large (abs code p) = omega arith
+kind_large (abs (at l) p) = omega arith
+kind_large (fresh x) = omega arith
+kind_large (two app x y) = omega arith
+kind_large (two guard x y) = omega arith
+kind_large (two unif x y) = omega arith
+
 -- the term at a node of the kind k with the number m
 pub record TermNode (k m : ℕ) (x : Tree term) : Type 0 where
+  pub large : 2 ≤ k
   pub small : k < 11
   pub is : spelt x ≡ head_bytes k m ++ (inner x ++ (41 ∷ []))
   pub lengths : length (spelt x) ≡ length (head_bytes k m) + length (inner x) + 1
@@ -207,7 +219,7 @@ term_node n x h =
     let s = see x h in
     let e = n.kind_is ∙ s.kind_is in
     let f = n.number_is ∙ s.number_is in
-    record { small = rw e (kind_small x); is = rw (e, f) (term_is x); lengths = rw (e, f) (term_length x) }
+    record { large = rw e (kind_large x); small = rw e (kind_small x); is = rw (e, f) (term_is x); lengths = rw (e, f) (term_length x) }
 
 -- The parts of a term by its kind k: none, a program, a term, two terms.
 

@@ -1,14 +1,12 @@
 // Table to text.
 ghost use Rattle.std.specs.Prelude.{◌≡◌, false, [], ◌∷◌, ◌<◌, length, get_or};
+ghost use Rattle.table.specs.Kinds.{kind_code};
 ghost use Rattle.writing.specs.Writing.{CountedProgram, TextLength, RoomForText, CellsForText, TextWritten};
 ghost use Rattle.writing.specs.Writer.{DigitCount, has_number, NodeBytes, tags, tag_bytes, numeral, head_bytes, BytesFit, Wrote, Pushed, Asked, Put};
 ghost use Rattle.writing.specs.Cells.{code};
 
-use table::kinds::{
-    ABSTRACTION, ALLOCATED, ALTERNATIVE, APPLICATION, BOUND, CONSTRUCTOR, EMPTY, FREE, FRESH,
-    GUARD, UNIFICATION,
-};
-use table::nodes::node_at;
+use table::kinds::Kind;
+use table::nodes::{Node, node_at};
 
 // How many digits the plain decimal of a number has.
 fn digits(n: u16) -> usize
@@ -24,20 +22,27 @@ fn digits(n: u16) -> usize
 }
 
 // Whether a node of the kind has a number.
-fn has_number(kind: u16) -> bool
-    ensures { result ≡ get_or has_number kind false }
+fn has_number(kind: Kind) -> bool
+    ensures { result ≡ get_or has_number (kind_code kind) false }
 {
-    matches!(kind, BOUND | FREE | CONSTRUCTOR | ALLOCATED)
+    matches!(
+        kind,
+        Kind::Bound | Kind::Free | Kind::Constructor | Kind::Allocated
+    )
 }
 
 // The bytes that a node adds to its program's text: a closing bracket counts with its opening one, an empty program is two brackets.
-fn node_bytes(kind: u16, number: u16) -> usize
-    ensures { NodeBytes kind number result }
+fn node_bytes(n: Node) -> usize
+    ensures { NodeBytes n.kind n.number result }
 {
+    // a number that no kind has stands in no program
+    let Ok(kind) = Kind::try_from(n.kind) else {
+        return 5;
+    };
     match kind {
-        EMPTY => 2,
-        ALTERNATIVE => 0,
-        _ if has_number(kind) => 7 + digits(number),
+        Kind::Empty => 2,
+        Kind::Alternative => 0,
+        _ if has_number(kind) => 7 + digits(n.number),
         _ => 5,
     }
 }
@@ -50,8 +55,7 @@ pub fn text_length(t: &[u16], count: usize) -> usize
 {
     let mut total: usize = 0;
     for at in 0..count {
-        let n = node_at(t, at);
-        total += node_bytes(n.kind, n.number);
+        total += node_bytes(node_at(t, at));
     }
     total
 }
@@ -101,27 +105,27 @@ pub fn put_number(out: &mut [u8], to: usize, n: u16) -> usize
 }
 
 // The tag of a term of the kind. A program has none.
-fn tag_of(kind: u16) -> u8
-    ensures { result ≡ get_or tags kind 0 }
+fn tag_of(kind: Kind) -> u8
+    ensures { result ≡ get_or tags (kind_code kind) 0 }
 {
     match kind {
-        BOUND => b'v',
-        FREE => b'x',
-        CONSTRUCTOR => b'c',
-        ABSTRACTION => b'l',
-        ALLOCATED => b'L',
-        APPLICATION => b'a',
-        FRESH => b'n',
-        GUARD => b'g',
-        UNIFICATION => b'u',
-        _ => 0,
+        Kind::Empty | Kind::Alternative => 0,
+        Kind::Bound => b'v',
+        Kind::Free => b'x',
+        Kind::Constructor => b'c',
+        Kind::Abstraction => b'l',
+        Kind::Allocated => b'L',
+        Kind::Application => b'a',
+        Kind::Fresh => b'n',
+        Kind::Guard => b'g',
+        Kind::Unification => b'u',
     }
 }
 
 // What a term of the kind begins with: bracket, tag and, where it has one, its number.
-fn put_head(out: &mut [u8], to: usize, kind: u16, number: u16) -> usize
-    requires { BytesFit out.old to (head_bytes kind number) }
-    ensures { Wrote out.old out.new to result (head_bytes kind number) }
+fn put_head(out: &mut [u8], to: usize, kind: Kind, number: u16) -> usize
+    requires { BytesFit out.old to (head_bytes (kind_code kind) number) }
+    ensures { Wrote out.old out.new to result (head_bytes (kind_code kind) number) }
 {
     let byte = put_tag(out, to, tag_of(kind));
     if has_number(kind) {
@@ -180,28 +184,37 @@ fn put_term(
 {
     let n = node_at(t, at);
     let node = at + 1;
-    let byte = put_head(out, to, n.kind, n.number);
+    // a term stands there, so its number is a kind's
+    let Ok(kind) = Kind::try_from(n.kind) else {
+        return Progress {
+            node,
+            byte: to,
+            cells,
+        };
+    };
+    let byte = put_head(out, to, kind, n.number);
     // variables and constructors have no part, the two abstractions a program, a fresh a term, the others two terms
-    if n.kind < ABSTRACTION {
+    if kind.parts() == 0 {
         let byte = put(out, byte, b')');
         return Progress { node, byte, cells };
     }
     let close = push(stack, cells, Piece::Close);
-    if n.kind < APPLICATION {
-        let byte = put(out, byte, b'(');
-        let cells = push(stack, close, Piece::Rest);
-        return Progress { node, byte, cells };
+    match kind {
+        Kind::Abstraction | Kind::Allocated => {
+            let byte = put(out, byte, b'(');
+            let cells = push(stack, close, Piece::Rest);
+            Progress { node, byte, cells }
+        }
+        Kind::Fresh => {
+            let cells = push(stack, close, Piece::Term);
+            Progress { node, byte, cells }
+        }
+        _ => {
+            let last = push(stack, close, Piece::Term);
+            let cells = push(stack, last, Piece::Term);
+            Progress { node, byte, cells }
+        }
     }
-    let last = push(stack, close, Piece::Term);
-    if n.kind == FRESH {
-        return Progress {
-            node,
-            byte,
-            cells: last,
-        };
-    }
-    let cells = push(stack, last, Piece::Term);
-    Progress { node, byte, cells }
 }
 
 // The piece that was on top.
@@ -227,7 +240,7 @@ fn put_piece(
         Piece::Rest => {
             let n = node_at(t, at);
             let next = at + 1;
-            if n.kind == EMPTY {
+            if n.is(Kind::Empty) {
                 return Progress {
                     node: next,
                     byte: put(out, to, b')'),

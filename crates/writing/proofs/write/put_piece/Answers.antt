@@ -9,14 +9,14 @@ node_at-n-requires c = search rest_inside
 pub overflow_add-next : goal.overflow_add-next
 overflow_add-next c = omega (arith, rest_inside c.in-Rest.is c.requires)
 
-pub returns-then-n-eq-EMPTY : goal.returns-then-n-eq-EMPTY
-returns-then-n-eq-EMPTY c = search end_put
+pub returns-then-is : goal.returns-then-is
+returns-then-is c = end_put c.in-Rest.is c.node_at-n.ensures c.if-is.ensures c.put-then-is.ensures
 
 pub push-rest-requires : goal.push-rest-requires
-push-rest-requires c = search rest_cell
+push-rest-requires c = rest_cell c.in-Rest.is c.node_at-n.ensures c.if-is.ensures c.requires
 
 pub put_term-requires-in-Rest : goal.put_term-requires-in-Rest
-put_term-requires-in-Rest c = search member_asked
+put_term-requires-in-Rest c = member_asked c.in-Rest.is c.node_at-n.ensures c.if-is.ensures c.push-rest.ensures c.requires
 
-pub returns-else-n-eq-EMPTY : goal.returns-else-n-eq-EMPTY
-returns-else-n-eq-EMPTY c = search member_put
+pub returns-else-is : goal.returns-else-is
+returns-else-is c = member_put c.in-Rest.is c.node_at-n.ensures c.if-is.ensures c.push-rest.ensures c.put_term-in-Rest.ensures
