@@ -25,10 +25,9 @@ pub fn read(text: &[u8], table: &mut [u16], column: &mut [u16]) -> Result<usize,
     requires { small_limit ≤ holds (sheet table.old column.old) }
     ensures { ReadsOperators small_limit text.now (sheet table.old column.old) (counted_values result) (sheet table.new column.new) }
 {
-    let count = small::read(text, table, column).map_err(turned_away)?;
-    if none_allocated(table, count) {
-        Ok(count)
-    } else {
-        Err(Refusal::Closure)
+    match small::read(text, table, column) {
+        Ok(count) if none_allocated(table, count) => Ok(count),
+        Ok(_) => Err(Refusal::Closure),
+        Err(refusal) => Err(turned_away(refusal)),
     }
 }

@@ -7,8 +7,8 @@ use Rattle.calculus.proofs.Reports.{zeros_hold}
 use Rattle.leaf.proofs.Calling.{run_not_refused, run_few, run_holds, run_written}
 use Rattle.leaf.proofs.report.put_run.Goals as goal
 
-pub overflow_cast-steps : goal.overflow_cast-steps
-overflow_cast-steps c = omega (arith, run_few c.requires.loaded (zeros_hold small_limit) c.run.ensures c.in-Ok.end.reason (ap ran_values c.in-Ok.is))
+pub overflow_cast-end : goal.overflow_cast-end
+overflow_cast-end c = omega (arith, run_few c.requires.loaded (zeros_hold small_limit) c.run.ensures c.in-Ok.end.reason (ap ran_values c.in-Ok.is))
 
 pub put_end-requires-clause-holds_good : goal.put_end-requires-clause-holds_good
 put_end-requires-clause-holds_good c = run_holds c.requires.loaded (zeros_hold small_limit) c.run.ensures c.in-Ok.end.reason (ap ran_values c.in-Ok.is)
