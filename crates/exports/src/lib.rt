@@ -1,4 +1,5 @@
 // The six calls for 16,384 nodes as C sees them: slices are a pointer and a length, answers are structs of numbers.
+// small_exports has the same for 2,048: names in C are not generic, and each size is an object of its own.
 #![tactic(auto)]
 
 ghost use Rattle.calculus.specs.Sheets.{sheet};

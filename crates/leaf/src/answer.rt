@@ -49,7 +49,7 @@ fn write_full<W: Write>(to: &mut W, bytes: &[u8]) -> io::Result<()>
     Ok(())
 }
 
-// Writes the report of what it reads. Where the input is known, the output grows by that input's report, and where a read or a write fails, by a front of it.
+/// Writes the report of what it reads. Where the input is known, the output grows by that input's report, and where a read or a write fails, by a front of it.
 pub fn answer<R: Read, W: Write>(from: &mut R, to: &mut W) -> io::Result<()>
     ensures ok { OnOk result (IfSome (R.remaining from.old) (Answers (W.contents to.old) (W.contents to.new))) }
     ensures err { OnErr result (IfSome (R.remaining from.old) (Begins (W.contents to.old) (W.contents to.new))) }

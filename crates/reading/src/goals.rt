@@ -16,7 +16,7 @@ pub enum Goal {
 impl Goal {
     ghost use Rattle.reading.specs.Descent.{Codes};
 
-    /// The goal of a cell. Any number but the first four is that of a bracket that ends a binder.
+    // The goal of a cell. Any number but the first four is that of a bracket that ends a binder.
     pub(crate) fn of(cell: u8) -> Goal
         ensures { Codes result cell }
     {
@@ -37,7 +37,7 @@ pub struct Waiting {
     pub binders: usize,
 }
 
-/// One more goal, before those that wait.
+/// One more goal, before those that wait. A goal is a byte here, since the stack is lent as bytes and any byte is allowed.
 pub fn push(goals: &mut [u8], top: usize, goal: u8) -> usize
     requires { (0 < top) × (top ≤ length goals.old) }
     ensures { Pushes goal goals.old top result goals.new }

@@ -2,7 +2,7 @@
 ghost use Rattle.std.specs.Prelude.{◌+◌, ◌≤◌, length, take, drop};
 ghost use Rattle.reading.specs.Numbers.{NumberIs, number_values};
 
-/// The number that the n bytes from a place on are the plain decimal of, if it is below the bound.
+/// The number that the n bytes from a place on are the plain decimal of, if it is below the bound. `str::parse` would take `+5` and `05` too.
 pub fn number_in(s: &[u8], place: usize, n: usize, below: usize) -> Option<u16>
     requires n_in_bounds { place + n ≤ length s.now }
     requires below_bound { below ≤ 65536 }

@@ -12,7 +12,7 @@ use csexp::Cursor;
 use table::kinds::Kind;
 use table::nodes::put_node;
 
-// What a descent has met: the nodes, and whether an N was bad or an index without its binder.
+// What a descent has met: the nodes, and whether an N was bad or an index without its binder. Two flags: both may hold, and the nodes are counted in any case.
 #[derive(Clone, Copy)]
 struct Met {
     nodes: usize,

@@ -8,7 +8,7 @@ use crate::nodes::none_of;
 use crate::walk::{Scope, walk};
 use calculus::Refusal;
 
-/// The node limit in force: as far as 16-bit numbers and the scratch serve.
+// The node limit in force: as far as 16-bit numbers and the scratch serve.
 fn limit_in_force(limit: usize, scratch: usize) -> usize
     ensures { result ≡ in_force limit scratch }
 {

@@ -77,6 +77,7 @@ pub fn threads_agree(t: &[u16], limit: usize, first: &mut [u16]) -> bool
     ensures { ThreadsAgree t.now result }
 {
     let mut at: usize = 0;
+    // from thread to thread, each passed by one jump: no range
     loop {
         if node_at(t, at).is(Kind::Empty) {
             return true;

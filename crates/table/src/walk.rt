@@ -17,7 +17,7 @@ pub enum Scope {
 }
 
 impl Scope {
-    /// Why an index without a binder is refused.
+    // Why an index without a binder is refused.
     fn fault(self) -> Refusal
         ensures { result ≡ unbound (within self) }
     {

@@ -11,14 +11,14 @@ use column::sizes::size_at;
 use table::kinds::Kind;
 use table::nodes::node_at;
 
-/// A part of a table: its first number, and how many numbers.
+/// A part of a table: its first number, and how many numbers; 0 and 0 for none, as C has it.
 #[derive(Clone, Copy)]
 pub struct Span {
     pub start: usize,
     pub length: usize,
 }
 
-/// The first node of the thread whose alternative node is at `at`; none where the empty node ends the program.
+// The first node of the thread whose alternative node is at `at`; none where the empty node ends the program.
 fn thread_behind(t: &[u16], at: usize) -> Option<usize>
     requires { 2 * at + 2 ≤ length t.now }
     ensures { result ≡ thread_behind t.now at }

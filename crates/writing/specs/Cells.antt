@@ -10,5 +10,5 @@ code Rest = 1
 code Close = 2
 
 -- a piece's number stands for it
-abbrev pub Stands : ℕ → Piece → Type 0
-Stands cell piece = cell ≤ 2 → code piece ≡ cell
+abbrev pub StandsFor : ℕ → Piece → Type 0
+StandsFor cell piece = cell ≤ 2 → code piece ≡ cell

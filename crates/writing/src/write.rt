@@ -8,7 +8,7 @@ ghost use Rattle.writing.specs.Cells.{code};
 use table::kinds::Kind;
 use table::nodes::{Node, node_at};
 
-// How many digits the plain decimal of a number has.
+// How many digits the plain decimal of a number has. `checked_ilog10` gives none for 0, and is no plainer.
 fn digits(n: u16) -> usize
     ensures { DigitCount n result }
 {
@@ -135,7 +135,7 @@ fn put_head(out: &mut [u8], to: usize, kind: Kind, number: u16) -> usize
     }
 }
 
-/// A piece of the text that is still to be written.
+// A piece of the text that is still to be written.
 #[derive(Clone, Copy)]
 enum Piece {
     /// The term at the next node.
@@ -147,11 +147,11 @@ enum Piece {
 }
 
 impl Piece {
-    ghost use Rattle.writing.specs.Cells.{Stands};
+    ghost use Rattle.writing.specs.Cells.{StandsFor};
 
-    /// The piece that a cell of the stack stands for.
+    // The piece that a cell of the stack stands for.
     fn of(cell: u16) -> Piece
-        ensures { Stands cell result }
+        ensures { StandsFor cell result }
     {
         match cell {
             0 => Piece::Term,
