@@ -92,14 +92,7 @@ fn put_run(count: usize, table: &mut [u16], column: &mut [u16], out: &mut [u8]) 
         &mut work_column,
         STEP_LIMIT,
     ) {
-        Ok(end) => put_end(
-            end.reason,
-            end.steps as u16,
-            table,
-            column,
-            end.nodes,
-            out,
-        ),
+        Ok(end) => put_end(end.reason, end.steps as u16, table, column, end.nodes, out),
         // cannot be: what was read is run
         Err(r) => put_refusal(r, out),
     }
