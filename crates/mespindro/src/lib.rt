@@ -9,6 +9,8 @@ ghost use Rattle.mespindro.specs.Limit.{limit};
 
 use calculus::{Ran, Refusal, Standing, Stepped};
 
+// The two instances of `calls` differ in this number; an array's length cannot be computed from a parameter, so each says what follows from it.
+
 /// The nodes of the largest program, and the entries of its column.
 pub const LIMIT: usize = 16384;
 

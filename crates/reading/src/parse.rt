@@ -67,7 +67,7 @@ impl<'a> Parser<'a> {
         Some(())
     }
 
-    // The node of a term with this tag: its kind, and its N where it has one.
+    // The node of a term with this tag: its kind, and its N where it has one. A tag is the byte of a text, and may be any.
     fn head(&mut self, tag: u8) -> Option<()>
         requires { (self.old.limit < 65536) × (self.old.met.nodes + 1 ≤ self.old.cursor.at) × (self.old.cursor.at ≤ length self.old.text.now) }
         ensures heads { Heads self.old.limit self.old.text.now self.old.ahead.binders tag self.old.cursor self.old.met self.old.build.now (descent_of result self.new) self.new.build.now }

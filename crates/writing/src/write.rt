@@ -77,7 +77,7 @@ pub fn put(out: &mut [u8], to: usize, b: u8) -> usize
     to + 1
 }
 
-// An opening bracket and a tag.
+// An opening bracket and a tag, the byte that stands in the text.
 fn put_tag(out: &mut [u8], to: usize, tag: u8) -> usize
     requires { BytesFit out.old to (tag_bytes tag) }
     ensures { Wrote out.old out.new to result (tag_bytes tag) }
