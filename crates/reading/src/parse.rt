@@ -13,7 +13,7 @@ use table::kinds::Kind;
 use table::nodes::put_node;
 
 // What a descent has met: the nodes, and whether an N was bad or an index without its binder. Two flags: both may hold, and the nodes are counted in any case.
-#[derive(Clone, Copy)]
+#[derive(Clone, Copy, Default)]
 struct Met {
     nodes: usize,
     bad: bool,
@@ -172,11 +172,7 @@ pub fn parse(s: &[u8], limit: usize, build: &mut [u16], goals: &mut [u8]) -> Res
         text: s,
         limit,
         cursor: Cursor::start(),
-        met: Met {
-            nodes: 0,
-            bad: false,
-            loose: false,
-        },
+        met: Met::default(),
         ahead: Waiting { top, binders: 0 },
         build,
         goals,
