@@ -1,12 +1,12 @@
 // A checked program and its threads, seen as document 003's trees.
-ghost use Rattle.std.specs.Prelude.{◌≡◌, ◌≤◌, length, slice_get, IfSome, IfNone, IfOk, Some};
+ghost use Rattle.std.specs.Prelude.{◌≡◌, ◌*◌, ◌≤◌, length, slice_get, IfSome, IfNone, IfOk, Some};
 ghost use Rattle.calculus.specs.Tree.{empty, alt, threads};
 ghost use Rattle.calculus.specs.Sheets.{sheet};
 ghost use Rattle.calculus.specs.Good.{Good};
 ghost use Rattle.calculus.specs.Calls.{TableOf};
 ghost use Rattle.table.specs.Checks.{in_force};
 ghost use Rattle.column.specs.Admissions.{ChecksWith};
-ghost use Rattle.threads.specs.Programs.{ProgramLies, ThreadLies, one_program, one_thread, checked_number};
+ghost use Rattle.threads.specs.Programs.{ProgramLies, ThreadLies, FirstEnds, one_program, one_thread, admission_number};
 
 use calculus::Refusal;
 use column::check::check_with;
@@ -53,6 +53,19 @@ impl<'a> Model for Program<'a> {
     ghost view = { λ p. p.lies.0 };
 }
 
+// The node behind the first thread; none where the program is the empty one.
+fn first_end(nodes: &[u16], sizes: &[u16]) -> Option<usize>
+    requires { ProgramLies nodes.now sizes.now }
+    ensures bounds { IfSome result (λ e. (1 ≤ e) × ((2 * e ≤ length nodes.now) × (e ≤ length sizes.now))) }
+    ensures some { IfSome result (FirstEnds nodes.now sizes.now) }
+    ensures none { IfNone result ((p : ProgramLies nodes.now sizes.now) → p.0 ≡ empty) }
+{
+    if node_at(nodes, 0).is(Kind::Empty) {
+        return None;
+    }
+    Some(1 + size_at(sizes, 1))
+}
+
 impl<'a> Program<'a> {
     /// The first thread, and the program of the others; none where the program is the empty one.
     pub fn split_first(&self) -> Option<(Thread<'a>, Program<'a>)>
@@ -61,10 +74,7 @@ impl<'a> Program<'a> {
     {
         let nodes = self.nodes;
         let sizes = self.sizes;
-        if node_at(nodes, 0).is(Kind::Empty) {
-            return None;
-        }
-        let end = 1 + size_at(sizes, 1);
+        let end = first_end(nodes, sizes)?;
         let thread = Thread {
             nodes: &nodes[2..2 * end],
             sizes: &sizes[1..],
@@ -77,16 +87,14 @@ impl<'a> Program<'a> {
     }
 
     /// The thread k; none where there are not so many.
-    #[tactic(auto, using(crate::proofs::Programs::none_there, crate::proofs::Programs::first_there, crate::proofs::Programs::no_more, crate::proofs::Programs::next_there, crate::proofs::Programs::is_there))]
+    #[tactic(auto, using(crate::proofs::Programs::passing))]
     pub fn thread(&self, k: usize) -> Option<Thread<'a>>
         ensures some { IfSome result (λ t. slice_get (threads self.now) k ≡ Some t) }
         ensures none { IfNone result (length (threads self.now) ≤ k) }
     {
         let (mut thread, mut rest) = self.split_first()?;
         for _ in 0..k {
-            let (next, others) = rest.split_first()?;
-            thread = next;
-            rest = others;
+            (thread, rest) = rest.split_first()?;
         }
         Some(thread)
     }
@@ -100,7 +108,7 @@ pub fn checked<'a>(
     limit: usize,
     scratch: &mut [u16],
 ) -> Result<Program<'a>, Refusal>
-    ensures checks { ChecksWith (in_force limit (length scratch.old)) (sheet t.now column.now) count (checked_number result) }
+    ensures checks { ChecksWith (in_force limit (length scratch.old)) (sheet t.now column.now) count (admission_number result) }
     ensures good { IfOk result (λ p. TableOf (in_force limit (length scratch.old)) t.now count p × Good (in_force limit (length scratch.old)) p) }
 {
     check_with(t, column, count, limit, scratch)?;
