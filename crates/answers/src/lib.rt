@@ -40,7 +40,7 @@ pub struct Stand {
     pub refusal: u16,
 }
 
-/// A part of the table: its first number, and how many numbers.
+/// A part of the table: its first number, and how many numbers. It is `threads::Span` as C lays it out, as the others are the calls' answers.
 #[repr(C)]
 #[derive(Clone, Copy)]
 pub struct Part {

@@ -31,11 +31,8 @@ fn longer(n: usize, digit: u8, most: usize) -> usize
     requires { (48 ≤ digit) × (digit < 58) × (most + 9 < 2 ^ 64) }
     ensures { LengthKept most result (10 * n + (digit - 48)) }
 {
-    if most / 10 < n {
-        most + 1
-    } else {
-        10 * n + (digit - b'0') as usize
-    }
+    let next = n.saturating_mul(10).saturating_add((digit - b'0') as usize);
+    next.min(most + 1)
 }
 
 // The atom whose length begins at a digit.

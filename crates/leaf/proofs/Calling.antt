@@ -17,6 +17,7 @@ use Rattle.calculus.specs.Report.{report, refusal_report, zeros, reported, refus
 use Rattle.calculus.proofs.Answers.{number_positive, reason_injective, same_value, number_small}
 use Rattle.calculus.proofs.Runs.{program_run_only}
 use Rattle.calculus.proofs.Outcomes.{table_of_unique}
+use Rattle.writing.specs.declared.write.Output.{Output}
 use Rattle.writing.specs.Writer.{numeral, Wrote}
 use Rattle.promises.proofs.Admitted.{accepted}
 use Rattle.small.specs.Limit.{small_limit}
@@ -25,8 +26,8 @@ use Rattle.promises.proofs.Worked.{run_gives, good_runs}
 use Rattle.promises.proofs.Refused.{read_length}
 use Rattle.operator.specs.Operator.{ReadsOperators}
 use Rattle.operator.proofs.Reading.{has_read, read_held, operators_exactly, accepted_plain}
-use Rattle.leaf.specs.Reported.{most, longest, Reported}
-use Rattle.leaf.specs.Written.{HoldsGood, Loaded, EndWritten, RunWritten}
+use Rattle.leaf.specs.Reported.{most, Reported}
+use Rattle.leaf.specs.Written.{Blank, HoldsGood, Loaded, EndWritten, RunWritten}
 use Rattle.leaf.proofs.Stores.{wrote_front}
 use Rattle.leaf.proofs.Shapes.{numeral_length, refusal_is}
 
@@ -77,8 +78,9 @@ module _ {table : Sheet} {count : ℕ} {work : Sheet} {allowed : ℕ} {v : Value
     end_told = rw (reason_is, value 2)
 
     -- its report is that of the run
-    pub run_written : {out after : List ℕ} {next : ℕ} → EndWritten small_limit r k t.numbers m out after next → RunWritten small_limit allowed table.numbers count out after next
+    pub run_written : {out after : Output} → EndWritten small_limit r k t.numbers m out after → RunWritten small_limit allowed table.numbers count out after
     run_written e = record {
+      same = e.same;
       fits = e.fits;
       wrote = λ q s. rw (table_of_unique s h.good_there.held.table_of, ← end_is, ← end_told) (e.wrote has_run.end.last end_there.table_of);
     }
@@ -101,24 +103,24 @@ module _ {b : List ℕ} {v : Values} {t : Sheet} (c : ReadsOperators small_limit
     }
 
     -- the report of its run is the text's
-    pub run_reported : {out after : List ℕ} {next : ℕ} → RunWritten small_limit most t.numbers m out after next → Reported small_limit most b out next after
-    run_reported {out} {after} {next} w =
+    pub run_reported : {out after : Output} → out.at ≡ 0 → RunWritten small_limit most t.numbers m out after → Reported small_limit most b out.bytes.now after.at after.bytes.now
+    run_reported z w =
         let p = what.program in
         let u = w.wrote p (read_held plain f).table_of in
         record {
           written = report (run small_limit most (threads p));
           reports = reported p ((operators_exactly c).accepted_only (ap (λ (x : Values). x.refusal) f)) (record { is = what.is; ranges = what.good.ranges });
           counts = omega (arith, u);
-          is = wrote_front u w.fits;
+          is = wrote_front z u w.fits;
         }
 
   -- the report of a refusal is the text's
-  pub refusal_reported : (r : Refusal) {out after : List ℕ} {next : ℕ} → v.refusal ≡ number r → longest ≤ length out → Wrote out after 0 next (refusal_report r) → Reported small_limit most b out next after
+  pub refusal_reported : (r : Refusal) {out after : Output} → v.refusal ≡ number r → Blank out → Wrote out after (refusal_report r) → Reported small_limit most b out.bytes.now after.at after.bytes.now
   refusal_reported r f l u = record {
     written = refusal_report r;
     reports = refused r ((operators_exactly c).refused_only r f);
     counts = omega arith;
-    is = wrote_front u (omega (arith, ap length (refusal_is r), length-append (numeral (number r)) (41 ∷ []), numeral_length (number r) (omega (arith, number_small r))));
+    is = wrote_front l.none u (omega (arith, ap length (refusal_is r), length-append (numeral (number r)) (41 ∷ []), numeral_length (number r) (omega (arith, number_small r))));
   }
 
 -- a report is within its output

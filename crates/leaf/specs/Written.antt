@@ -9,7 +9,9 @@ use Rattle.calculus.specs.Sexp.{atom, bytes}
 use Rattle.calculus.specs.Answers.{reason_bytes}
 use Rattle.calculus.specs.Calls.{TableOf}
 use Rattle.calculus.specs.Report.{report}
+use Rattle.writing.specs.declared.write.Output.{Output}
 use Rattle.writing.specs.Writer.{numeral, Wrote}
+use Rattle.leaf.specs.Reported.{longest}
 use Rattle.promises.specs.Worked.{Held}
 
 -- the atom of a reason
@@ -20,6 +22,11 @@ reason_atom r = bytes (atom (reason_bytes r))
 -- what a run's report begins with: bracket, reason, steps
 abbrev pub start_bytes : Reason → ℕ → List ℕ
 start_bytes r k = (40 ∷ []) ++ (reason_atom r ++ numeral k)
+
+-- nothing is written, and there is room for the longest report
+pub record Blank (out : Output) : Type 0 where
+  pub none : out.at ≡ 0
+  pub room : longest ≤ length out.bytes.now
 
 -- a program that document 01 admits stands in the table, and its column beside it
 pub record HoldsGood (n : ℕ) (table : Sheet) (count : ℕ) : Type 0 where
@@ -34,11 +41,13 @@ pub record Loaded (n : ℕ) (table : Sheet) (count : ℕ) : Type 0 where
   pub long : length table.sizes ≡ n
 
 -- the report of an end: its reason, its steps, the program in the table
-pub record EndWritten (n : ℕ) (reason : Reason) (steps : ℕ) (table : List ℕ) (count : ℕ) (out after : List ℕ) (next : ℕ) : Type 0 where
-  pub fits : next ≤ length out
-  pub wrote : (ts : List (Tree term)) → TableOf n table count (program_of ts) → Wrote out after 0 next (report (record { reason = reason; taken = steps; last = ts }))
+pub record EndWritten (n : ℕ) (reason : Reason) (steps : ℕ) (table : List ℕ) (count : ℕ) (out after : Output) : Type 0 where
+  pub same : after.bytes.ghost_name ≡ out.bytes.ghost_name
+  pub fits : after.at ≤ length out.bytes.now
+  pub wrote : (ts : List (Tree term)) → TableOf n table count (program_of ts) → Wrote out after (report (record { reason = reason; taken = steps; last = ts }))
 
 -- the report of the run, with the step limit k, of the program in the table
-pub record RunWritten (n k : ℕ) (table : List ℕ) (count : ℕ) (out after : List ℕ) (next : ℕ) : Type 0 where
-  pub fits : next ≤ length out
-  pub wrote : (p : Tree program) → TableOf n table count p → Wrote out after 0 next (report (run n k (threads p)))
+pub record RunWritten (n k : ℕ) (table : List ℕ) (count : ℕ) (out after : Output) : Type 0 where
+  pub same : after.bytes.ghost_name ≡ out.bytes.ghost_name
+  pub fits : after.at ≤ length out.bytes.now
+  pub wrote : (p : Tree program) → TableOf n table count p → Wrote out after (report (run n k (threads p)))

@@ -2,57 +2,47 @@
 ghost use Rattle.std.specs.Prelude.{◌*◌, ◌≤◌, ◌<◌, length};
 ghost use Rattle.calculus.specs.Sheets.{sheet};
 ghost use Rattle.calculus.specs.Report.{refusal_report};
-ghost use Rattle.writing.specs.Writer.{BytesFit, Wrote};
+ghost use Rattle.writing.specs.Writer.{Fits, Wrote};
 ghost use Rattle.small.specs.Limit.{small_limit};
 ghost use Rattle.leaf.specs.Reported.{longest, most, Reported, ReportedWhole};
-ghost use Rattle.leaf.specs.Written.{reason_atom, start_bytes, HoldsGood, Loaded, EndWritten, RunWritten};
+ghost use Rattle.leaf.specs.Written.{reason_atom, start_bytes, Blank, HoldsGood, Loaded, EndWritten, RunWritten};
 
 use calculus::{Reason, Refusal};
 use small::{LIMIT, NUMBERS};
-use writing::write::{put, put_number};
+use writing::write::Output;
 
 const STEP_LIMIT: u32 = 10000;
 
-// Some bytes.
-fn put_all(out: &mut [u8], to: usize, b: &[u8]) -> usize
-    requires { BytesFit out.old to b.now }
-    ensures { Wrote out.old out.new to result b.now }
-{
-    let end = to + b.len();
-    out[to..end].copy_from_slice(b);
-    end
-}
-
 // The report of a refusal.
-fn put_refusal(r: Refusal, out: &mut [u8]) -> usize
-    requires { longest ≤ length out.old }
-    ensures { Wrote out.old out.new 0 result (refusal_report r) }
+fn put_refusal(r: Refusal, out: &mut Output<'_>)
+    requires { Blank out.old }
+    ensures { Wrote out.old out.new (refusal_report r) }
 {
-    let a = put_all(out, 0, b"(7:refused");
-    let b = put_number(out, a, r.number());
-    put(out, b, b')')
+    out.put_all(b"(7:refused");
+    out.put_number(r.number());
+    out.put(b')');
 }
 
 // The atom of a reason.
-fn put_reason(reason: Reason, out: &mut [u8], to: usize) -> usize
-    requires { BytesFit out.old to (reason_atom reason) }
-    ensures { Wrote out.old out.new to result (reason_atom reason) }
+fn put_reason(reason: Reason, out: &mut Output<'_>)
+    requires { Fits out.old (reason_atom reason) }
+    ensures { Wrote out.old out.new (reason_atom reason) }
 {
     match reason {
-        Reason::Ended => put_all(out, to, b"5:ended"),
-        Reason::Steps => put_all(out, to, b"5:steps"),
-        Reason::Room => put_all(out, to, b"4:room"),
+        Reason::Ended => out.put_all(b"5:ended"),
+        Reason::Steps => out.put_all(b"5:steps"),
+        Reason::Room => out.put_all(b"4:room"),
     }
 }
 
 // What a run's report begins with: bracket, reason, steps.
-fn put_start(reason: Reason, steps: u16, out: &mut [u8]) -> usize
-    requires { longest ≤ length out.old }
-    ensures { Wrote out.old out.new 0 result (start_bytes reason steps) }
+fn put_start(reason: Reason, steps: u16, out: &mut Output<'_>)
+    requires { Blank out.old }
+    ensures { Wrote out.old out.new (start_bytes reason steps) }
 {
-    let a = put(out, 0, b'(');
-    let b = put_reason(reason, out, a);
-    put_number(out, b, steps)
+    out.put(b'(');
+    put_reason(reason, out);
+    out.put_number(steps);
 }
 
 // The report of an end: reason, steps, the program in the table.
@@ -62,25 +52,31 @@ fn put_end(
     table: &[u16],
     column: &[u16],
     nodes: usize,
-    out: &mut [u8],
-) -> usize
+    out: &mut Output<'_>,
+)
     requires holds_good { HoldsGood small_limit (sheet table.now column.now) nodes }
-    requires longest_in_bounds { longest ≤ length out.old }
-    ensures { EndWritten small_limit reason steps table.now nodes out.old out.new result }
+    requires blank { Blank out.old }
+    ensures { EndWritten small_limit reason steps table.now nodes out.old out.new }
 {
-    let at = put_start(reason, steps, out);
-    match small::write(table, column, nodes, &mut out[at..]) {
-        Ok(n) => put(out, at + n, b')'),
+    put_start(reason, steps, out);
+    match small::write(table, column, nodes, &mut out.bytes[out.at..]) {
+        Ok(n) => {
+            out.at += n;
+            out.put(b')');
+        }
         // cannot be: the end of a run is written
-        Err(r) => put_refusal(r, out),
+        Err(r) => {
+            out.at = 0;
+            put_refusal(r, out);
+        }
     }
 }
 
 // The run of the program in the table, and its report.
-fn put_run(count: usize, table: &mut [u16], column: &mut [u16], out: &mut [u8]) -> usize
+fn put_run(count: usize, table: &mut [u16], column: &mut [u16], out: &mut Output<'_>)
     requires loaded { Loaded small_limit (sheet table.old column.old) count }
-    requires longest_in_bounds { longest ≤ length out.old }
-    ensures { RunWritten small_limit most table.old count out.old out.new result }
+    requires blank { Blank out.old }
+    ensures { RunWritten small_limit most table.old count out.old out.new }
 {
     let mut work = [0u16; NUMBERS];
     let mut work_column = [0u16; LIMIT];
@@ -105,10 +101,12 @@ fn report(text: &[u8], out: &mut [u8]) -> usize
 {
     let mut table = [0u16; NUMBERS];
     let mut column = [0u16; LIMIT];
+    let mut out = Output { bytes: out, at: 0 };
     match operator::read(text, &mut table, &mut column) {
-        Ok(n) => put_run(n, &mut table, &mut column, out),
-        Err(r) => put_refusal(r, out),
+        Ok(n) => put_run(n, &mut table, &mut column, &mut out),
+        Err(r) => put_refusal(r, &mut out),
     }
+    out.at
 }
 
 /// The report of the whole input, of which the first `n` bytes of the buffer are as much as it holds.

@@ -10,7 +10,7 @@ ghost use Rattle.operator.specs.Operator.{ReadsOperators, TurnedAway};
 use calculus::Refusal;
 use table::check::none_allocated;
 
-// The refusal of an operator's text that the reader refuses: what is incoherent holds a closure.
+// The refusal of an operator's text that the reader refuses: what is incoherent holds a closure. One refusal becomes another, so it is no `From`.
 fn turned_away(r: Refusal) -> Refusal
     ensures { TurnedAway r result }
 {

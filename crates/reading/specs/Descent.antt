@@ -327,15 +327,15 @@ abbrev pub goals_of : Parser → List ToRead
 goals_of p = waiting (drop p.ahead.top p.goals.now)
 
 -- before the next goal, and before a term
-abbrev pub Ready : Parser → Type 0
-Ready p = BeforeGoal p.limit p.text.now p.goals.now p.cursor p.met p.ahead
+abbrev pub GoalReady : Parser → Type 0
+GoalReady p = BeforeGoal p.limit p.text.now p.goals.now p.cursor p.met p.ahead
 
 abbrev pub TermReady : Parser → Type 0
 TermReady p = BeforeTerm p.limit p.text.now p.goals.now p.cursor p.met p.ahead
 
 -- what a turn by these goals owes, from the one to the other
-abbrev pub Turned : List ToRead → Parser → Option Unit → Parser → Type 0
-Turned gs p r q = Advances p.limit p.text.now gs p.cursor p.met p.build.now (turn_of r q) q.build.now q.goals.now
+abbrev pub TurnRead : List ToRead → Parser → Option Unit → Parser → Type 0
+TurnRead gs p r q = Advances p.limit p.text.now gs p.cursor p.met p.build.now (turn_of r q) q.build.now q.goals.now
 
 -- the same text, limit and lent tables
 pub record SameParse (p q : Parser) : Type 0 where

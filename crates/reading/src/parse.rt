@@ -2,7 +2,7 @@
 ghost use Rattle.std.specs.Prelude.{◌≡◌, [], ◌∷◌, ℕ, ◌+◌, ◌^◌, ◌<◌, ◌≤◌, length, Some};
 ghost use Rattle.table.specs.Kinds.{kind_code};
 ghost use Rattle.reading.specs.Reading.{Parses, parsed_values};
-ghost use Rattle.reading.specs.Descent.{Noted, Heads, Tops, Ahead, Follows, Descends, number, one_term, descent_of, goals_of, Ready, TermReady, Turned, SameParse, Stays};
+ghost use Rattle.reading.specs.Descent.{Noted, Heads, Tops, Ahead, Follows, Descends, number, one_term, descent_of, goals_of, GoalReady, TermReady, TurnRead, SameParse, Stays};
 
 use crate::goals::{Goal, Waiting, announced, push};
 use crate::items::{atom_at, close_at, open_at, tag_at};
@@ -13,7 +13,7 @@ use table::kinds::Kind;
 use table::nodes::put_node;
 
 // What a descent has met: the nodes, and whether an N was bad or an index without its binder. Two flags: both may hold, and the nodes are counted in any case.
-#[derive(Clone, Copy)]
+#[derive(Clone, Copy, Default)]
 struct Met {
     nodes: usize,
     bad: bool,
@@ -67,7 +67,7 @@ impl<'a> Parser<'a> {
         Some(())
     }
 
-    // The node of a term with this tag: its kind, and its N where it has one.
+    // The node of a term with this tag: its kind, and its N where it has one. A tag is the byte of a text, and may be any.
     fn head(&mut self, tag: u8) -> Option<()>
         requires { (self.old.limit < 65536) × (self.old.met.nodes + 1 ≤ self.old.cursor.at) × (self.old.cursor.at ≤ length self.old.text.now) }
         ensures heads { Heads self.old.limit self.old.text.now self.old.ahead.binders tag self.old.cursor self.old.met self.old.build.now (descent_of result self.new) self.new.build.now }
@@ -91,7 +91,7 @@ impl<'a> Parser<'a> {
     // A term before the goals that wait: its tag and its node. What its tag announces waits then, and its closing bracket.
     fn term(&mut self) -> Option<()>
         requires { TermReady self.old }
-        ensures advances { Turned (one_term self.old.ahead.binders ∷ goals_of self.old) self.old result self.new }
+        ensures advances { TurnRead (one_term self.old.ahead.binders ∷ goals_of self.old) self.old result self.new }
         ensures same { SameParse self.old self.new }
     {
         let (tag, next) = tag_at(self.text, self.cursor)?;
@@ -103,9 +103,9 @@ impl<'a> Parser<'a> {
 
     // The members of a program that are the next goal: its closing bracket, or a term before them.
     fn member(&mut self) -> Option<()>
-        requires before_goal { Ready self.old }
+        requires before_goal { GoalReady self.old }
         requires tops { Tops self.old.goals.now self.old.ahead.top 1 }
-        ensures advances { Turned (goals_of self.old) self.old result self.new }
+        ensures advances { TurnRead (goals_of self.old) self.old result self.new }
         ensures same { SameParse self.old self.new }
     {
         if let Some(next) = close_at(self.text, self.cursor) {
@@ -120,9 +120,9 @@ impl<'a> Parser<'a> {
 
     // Reads the next goal.
     fn advance(&mut self) -> Option<()>
-        requires before_goal { Ready self.old }
+        requires before_goal { GoalReady self.old }
         requires top_in_bounds { self.old.ahead.top < length self.old.goals.now }
-        ensures advances { Turned (goals_of self.old) self.old result self.new }
+        ensures advances { TurnRead (goals_of self.old) self.old result self.new }
         ensures same { SameParse self.old self.new }
     {
         let top = self.ahead.top;
@@ -145,7 +145,7 @@ impl<'a> Parser<'a> {
 
     // One goal after another, until none is left.
     fn descend(&mut self) -> Option<()>
-        requires { Ready self.old }
+        requires { GoalReady self.old }
         ensures follows { Follows self.old.limit self.old.text.now (goals_of self.old) (Some (self.old.cursor, self.old.met)) self.old.build.now [] (descent_of result self.new) self.new.build.now }
         ensures ahead { Ahead self.old.text.now 0 (descent_of result self.new) }
         ensures same { SameParse self.old self.new }
@@ -172,11 +172,7 @@ pub fn parse(s: &[u8], limit: usize, build: &mut [u16], goals: &mut [u8]) -> Res
         text: s,
         limit,
         cursor: Cursor::start(),
-        met: Met {
-            nodes: 0,
-            bad: false,
-            loose: false,
-        },
+        met: Met::default(),
         ahead: Waiting { top, binders: 0 },
         build,
         goals,

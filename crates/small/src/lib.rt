@@ -9,6 +9,8 @@ ghost use Rattle.small.specs.Limit.{small_limit};
 
 use calculus::{Ran, Refusal, Standing, Stepped};
 
+// The two instances of `calls` differ in this number; an array's length cannot be computed from a parameter, so each says what follows from it.
+
 /// The nodes of the largest program, and the entries of its column.
 pub const LIMIT: usize = 2048;
 
@@ -21,30 +23,21 @@ pub const TEXT: usize = 12 * LIMIT;
 /// What checking a table needs.
 pub const SCRATCH: usize = LIMIT + 2;
 
+// The goals that reading the longest text can come to hold.
+const GOALS: usize = TEXT + 2;
+
 /// Reads a text into a table and its column: the nodes at its front, their trees' sizes at the column's; or 2 to 9.
 pub fn read(text: &[u8], out: &mut [u16], column: &mut [u16]) -> Result<usize, Refusal>
     ensures { Reads small_limit text.now (sheet out.old column.old) (counted_values result) (sheet out.new column.new) }
 {
-    let mut build = [0u16; NUMBERS];
-    let mut scratch = [0u16; SCRATCH];
-    let mut goals = [0u8; TEXT + 2];
-    reading::read::read(
-        text,
-        out,
-        column,
-        LIMIT,
-        &mut build,
-        &mut scratch,
-        &mut goals,
-    )
+    calls::read::<LIMIT, NUMBERS, SCRATCH, GOALS>(text, out, column)
 }
 
 /// Writes the text of the program in a table: its bytes at the front of the output, or 1, 14, 6, 8, 9.
 pub fn write(table: &[u16], column: &[u16], count: usize, out: &mut [u8]) -> Result<usize, Refusal>
     ensures { Writes small_limit (sheet table.now column.now) count out.old (counted_values result) out.new }
 {
-    let mut scratch = [0u16; SCRATCH];
-    writing::store::write(table, column, count, out, LIMIT, &mut scratch)
+    calls::write::<LIMIT, SCRATCH>(table, column, count, out)
 }
 
 /// Makes a single step of the program in a table: the new program's nodes at the front of the output and their trees' sizes at the front of its column,
@@ -58,11 +51,7 @@ pub fn step(
 ) -> Result<Stepped, Refusal>
     ensures { StepsInto small_limit (sheet table.now column.now) count (sheet out.old out_column.old) (stepped_values result) (sheet out.new out_column.new) }
 {
-    let mut links = [0u16; NUMBERS];
-    let mut sizes = [0u16; LIMIT];
-    step::single::step(
-        table, column, count, out, out_column, LIMIT, &mut links, &mut sizes,
-    )
+    calls::step::<LIMIT, NUMBERS>(table, column, count, out, out_column)
 }
 
 /// Runs the program in a table for at most `most` steps: why it stopped, the nodes it left in the table (the sizes of their trees in the column), the steps
@@ -77,33 +66,19 @@ pub fn run(
 ) -> Result<Ran, Refusal>
     ensures { RunsWith small_limit (sheet table.old column.old) count (sheet work.old work_column.old) most (ran_values result) (sheet table.new column.new) (sheet work.new work_column.new) }
 {
-    let mut links = [0u16; NUMBERS];
-    let mut sizes = [0u16; LIMIT];
-    run::run(
-        table,
-        column,
-        count,
-        work,
-        work_column,
-        most,
-        LIMIT,
-        &mut links,
-        &mut sizes,
-    )
+    calls::run::<LIMIT, NUMBERS>(table, column, count, work, work_column, most)
 }
 
 /// How a thread stands, or 1, 14, 6, 8, 10.
 pub fn standing(table: &[u16], column: &[u16], count: usize, k: usize) -> Result<Standing, Refusal>
     ensures { StandsAt small_limit (sheet table.now column.now) count k (stood_values result) }
 {
-    let mut scratch = [0u16; SCRATCH];
-    standings::standing(table, column, count, k, LIMIT, &mut scratch)
+    calls::standing::<LIMIT, SCRATCH>(table, column, count, k)
 }
 
 /// The part of the table that is a thread's own, no copy; empty exactly when the standing call refuses.
 pub fn thread<'a>(table: &'a [u16], column: &[u16], count: usize, k: usize) -> &'a [u16]
     ensures { ThreadPart small_limit (sheet table.now column.now) count k table.entry.ref_ptr.0 table.entry.ref_ptr.1 result.ref_ptr.0 result.ref_ptr.1 result.now }
 {
-    let mut scratch = [0u16; SCRATCH];
-    threads::thread(table, column, count, k, LIMIT, &mut scratch)
+    calls::thread::<LIMIT, SCRATCH>(table, column, count, k)
 }

@@ -78,24 +78,34 @@ module _ {n : ℕ} {table : Sheet} {count : ℕ} (a : HeldIn n table count) wher
   this_one : {p : Tree program} → Stands table.numbers 0 p → TableOf n table.numbers count p
   this_one {p} h = rw (one_tree p a.program_there h (table_stands a.table_of)) a.table_of
 
-  -- there are not so many threads
+  module _ {p : Tree program} (o : TableOf n table.numbers count p) {k : ℕ} where
+    -- there are not so many threads
+    pub too_few : length (threads p) ≤ k → Refuses (thread_refusals n table count k) refusal.NoThread
+    too_few l = refuses_late (no_thread n table.numbers count k) (table_refusals n table count) refusal.NoThread a.accepts (inl ((p, (o, l)), refl))
+
+    -- there are more
+    pub enough : k < length (threads p) → Accepts (thread_refusals n table count k)
+    enough l =
+        let f : (q : Tree program) × (TableOf n table.numbers count q × (length (threads q) ≤ k)) → ⊥ = λ m. omega (arith, l, m.1.1, ap length (ap threads (table_of_unique m.1.0 o))) in
+        accepts_both (no_thread n table.numbers count k) (table_refusals n table count) a.accepts (f, tt)
+
+  -- there are not so many threads, by the place of one
   pub thread_missing : {k : ℕ} {r : Option ℕ} → r ≡ None → PlaceOf table.numbers k (place_values r) → Refuses (thread_refusals n table count k) refusal.NoThread
   thread_missing {k} e w = go w (ap (λ p. (place_values p).refusal) e)
     where
       go : {v : Values} → PlaceOf table.numbers k v → v.refusal ≡ 10 → Refuses (thread_refusals n table count k) refusal.NoThread
       go (from before x after h l) e = absurd (omega arith)
-      go (missing p h l) e = refuses_late (no_thread n table.numbers count k) (table_refusals n table count) refusal.NoThread a.accepts (inl ((p, (this_one h, l)), refl))
+      go (missing p h l) e = too_few (this_one h) l
 
   there_at : {k i : ℕ} {v : Values} → PlaceOf table.numbers k v → v ≡ record { refusal = 0; values = i ∷ [] } → ThreadAt n table count k i
   there_at {k} {i} (from before x after h l) q =
       let both = ap (λ (v : Values). v.values) q in
       let start : nodes_before before ≡ i = cc in
       let o : ThreadOf n table.numbers count k x = record { before = before; after = after; table_of = this_one h; place = l } in
-      let enough : (p : Tree program) × (TableOf n table.numbers count p × (length (threads p) ≤ k)) → ⊥ =
-      λ m. omega (arith, m.1.1, length-append before (x ∷ after), ap length (ap threads (table_of_unique m.1.0 o.table_of) ∙ threads_of_program (before ++ (x ∷ after)))) in
+      let m : k < length (threads (program_of (before ++ (x ∷ after)))) = omega (arith, l, length-append before (x ∷ after), ap length (threads_of_program (before ++ (x ∷ after)))) in
       record {
         thread = x;
-        accepts = accepts_both (no_thread n table.numbers count k) (table_refusals n table count) a.accepts (enough, tt);
+        accepts = enough o.table_of m;
         thread_of = o;
         start = start;
         there = moved (omega arith) (behind_threads before after 0 h);

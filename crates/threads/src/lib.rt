@@ -1,6 +1,8 @@
 // Where threads stand, and the call that hands a thread's part back.
 #![tactic(auto)]
 
+pub mod program;
+
 ghost use Rattle.std.specs.Prelude.{◌≡◌, ◌+◌, ◌*◌, ◌≤◌, length};
 ghost use Rattle.calculus.specs.Sheets.{sheet};
 ghost use Rattle.table.specs.Checks.{in_force};

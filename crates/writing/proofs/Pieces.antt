@@ -14,10 +14,11 @@ use Rattle.table.specs.declared.kinds.Kind.{Kind}
 use Rattle.table.specs.declared.kinds.Kind.TheVariants.{Empty, Alternative, Bound, Free, Constructor, Abstraction, Allocated, Application, Fresh, Guard, Unification}
 use Rattle.table.proofs.Trees.{IsAlt, alt_at, program_at, one_tree, in_table}
 use Rattle.writing.specs.Writing.{RoomForText, CellsForText, TextWritten}
-use Rattle.writing.specs.Writer.{head_bytes, spelt, BytesFit, Wrote, Pushed, Piece, a_term, a_rest, closing, cell, spelt_all, StandAll, cells_for, Stacked, ToCome, Unwritten, InHand, Asked, Put}
+use Rattle.writing.specs.Writer.{head_bytes, spelt, Fits, Wrote, Pushed, Piece, a_term, a_rest, closing, cell, spelt_all, StandAll, cells_for, Stacked, ToCome, Unwritten, InHand, Asked, Put}
+use Rattle.writing.specs.declared.write.Output.{Output}
 use Rattle.writing.specs.declared.write.Piece.{Piece as Code}
 use Rattle.writing.specs.declared.write.Piece.TheVariants.{Rest}
-use Rattle.writing.specs.Cells.{code}
+use Rattle.writing.specs.Cells.{code, Popped}
 use Rattle.writing.proofs.Written.{sets_append, wrote_none, wrote_more, bracketed_length, inner, TermNode, term_node, Parts, parts_at, members_alt, members_empty, text_is}
 
 -- The stack.
@@ -49,91 +50,93 @@ stand_at : (t : List ℕ) {i j : ℕ} (l : List Piece) → i ≡ j → StandAll 
 stand_at t l e h = rw e at h
 
 -- some bytes of the pieces `l` are written, and the pieces `m` are left of them
-on : {t last out after stack stack' b : List ℕ} {at node to byte : ℕ} (l m : List Piece) → ToCome t last at out to stack l → Wrote out after to byte b → spelt_all l ≡ b ++ spelt_all m → StandAll t node m → cells_for m ≤ cells_for l → length stack' ≡ length stack → ToCome t last node after byte stack' m
-on {out} {b} {to} l m h w e s f g = record {
+on : {t last stack stack' b : List ℕ} {out after : Output} {at node : ℕ} (l m : List Piece) → ToCome t last at out stack l → Wrote out after b → spelt_all l ≡ b ++ spelt_all m → StandAll t node m → cells_for m ≤ cells_for l → length stack' ≡ length stack → ToCome t last node after stack' m
+on {b = b} {out} l m h w e s f g = record {
   stand = s;
   room = record { fits = omega (arith, ap length e, length-append b (spelt_all m)) };
-  makes = cc (sets_append out to b (spelt_all m), w.is, w.next_is, e, h.makes);
+  makes = cc (sets_append out.bytes.now out.at b (spelt_all m), w.is, w.next_is, e, h.makes);
   enough = omega arith;
 }
 
 -- The first piece by its cell.
 
-module _ (t last : List ℕ) (at : ℕ) (out : List ℕ) (to : ℕ) (stack : List ℕ) (cells : ℕ) where
+module _ (t last : List ℕ) (at : ℕ) (out : Output) (stack : List ℕ) (cells : ℕ) where
   -- a term
   record TermFirst : Type 0 where
     tree : Tree term
     others : List Piece
     stacked : Stacked stack cells others
-    to_come : ToCome t last at out to stack (a_term tree ∷ others)
+    to_come : ToCome t last at out stack (a_term tree ∷ others)
 
   -- the rest of a program
   record RestFirst : Type 0 where
     rest : Tree program
     others : List Piece
     stacked : Stacked stack cells others
-    to_come : ToCome t last at out to stack (a_rest rest ∷ others)
+    to_come : ToCome t last at out stack (a_rest rest ∷ others)
 
   -- a closing bracket
   record ClosingFirst : Type 0 where
     others : List Piece
     stacked : Stacked stack cells others
-    to_come : ToCome t last at out to stack (closing ∷ others)
+    to_come : ToCome t last at out stack (closing ∷ others)
 
-module _ {t last out stack : List ℕ} {at to cells : ℕ} where
+module _ {t last stack : List ℕ} {out : Output} {at cells : ℕ} where
   -- the cell on top says what comes first
-  top_in_hand : Unwritten t last at out to stack cells → 0 < cells → InHand (get_or stack (cells - 1) 0) t last at out to stack (cells - 1)
+  top_in_hand : Unwritten t last at out stack cells → 0 < cells → InHand (get_or stack (cells - 1) 0) t last at out stack (cells - 1)
   top_in_hand h f = go h.pieces h.stacked h.to_come
     where
-      go : (l : List Piece) → Stacked stack cells l → ToCome t last at out to stack l → InHand (get_or stack (cells - 1) 0) t last at out to stack (cells - 1)
+      go : (l : List Piece) → Stacked stack cells l → ToCome t last at out stack l → InHand (get_or stack (cells - 1) 0) t last at out stack (cells - 1)
       go [] e k = absurd (omega arith)
       go (x ∷ l) s k =
           let e : cells - 1 ≡ s.0 = omega arith in
           record { piece = x; is = rw e s.1.1.0; others = l; stacked = rw e s.1.1.1; to_come = k }
 
   -- no cell: all is written
-  all_written : Unwritten t last at out to stack cells → cells ≤ 0 → out ≡ last
+  all_written : Unwritten t last at out stack cells → cells ≤ 0 → out.bytes.now ≡ last
   all_written h f = go h.pieces h.stacked h.to_come
     where
-      go : (l : List Piece) → Stacked stack cells l → ToCome t last at out to stack l → out ≡ last
+      go : (l : List Piece) → Stacked stack cells l → ToCome t last at out stack l → out.bytes.now ≡ last
       go [] e k = k.makes
       go (x ∷ l) s k = absurd (omega arith)
 
   -- 0 is a term's cell, 1 that of a program's rest, 2 a closing bracket's
-  first_term : {c : ℕ} → c ≡ 0 → InHand c t last at out to stack cells → TermFirst t last at out to stack cells
+  first_term : {c : ℕ} → c ≡ 0 → InHand c t last at out stack cells → TermFirst t last at out stack cells
   first_term e h = go h.piece h.others (sym e ∙ h.is) h.stacked h.to_come
     where
-      go : (x : Piece) (l : List Piece) → 0 ≡ cell x → Stacked stack cells l → ToCome t last at out to stack (x ∷ l) → TermFirst t last at out to stack cells
+      go : (x : Piece) (l : List Piece) → 0 ≡ cell x → Stacked stack cells l → ToCome t last at out stack (x ∷ l) → TermFirst t last at out stack cells
       go (a_term x) l e s k = record { tree = x; others = l; stacked = s; to_come = k }
       go (a_rest p) l e s k = absurd (omega arith)
       go closing l e s k = absurd (omega arith)
 
-  first_closing : {c : ℕ} → c ≡ 2 → InHand c t last at out to stack cells → ClosingFirst t last at out to stack cells
+  first_closing : {c : ℕ} → c ≡ 2 → InHand c t last at out stack cells → ClosingFirst t last at out stack cells
   first_closing e h = go h.piece h.others (sym e ∙ h.is) h.stacked h.to_come
     where
-      go : (x : Piece) (l : List Piece) → 2 ≡ cell x → Stacked stack cells l → ToCome t last at out to stack (x ∷ l) → ClosingFirst t last at out to stack cells
+      go : (x : Piece) (l : List Piece) → 2 ≡ cell x → Stacked stack cells l → ToCome t last at out stack (x ∷ l) → ClosingFirst t last at out stack cells
       go (a_term x) l e s k = absurd (omega arith)
       go (a_rest p) l e s k = absurd (omega arith)
       go closing l e s k = record { others = l; stacked = s; to_come = k }
 
-  first_rest : {c : ℕ} → c ≡ 1 → InHand c t last at out to stack cells → RestFirst t last at out to stack cells
+  first_rest : {c : ℕ} → c ≡ 1 → InHand c t last at out stack cells → RestFirst t last at out stack cells
   first_rest e h = go h.piece h.others (sym e ∙ h.is) h.stacked h.to_come
     where
-      go : (x : Piece) (l : List Piece) → 1 ≡ cell x → Stacked stack cells l → ToCome t last at out to stack (x ∷ l) → RestFirst t last at out to stack cells
+      go : (x : Piece) (l : List Piece) → 1 ≡ cell x → Stacked stack cells l → ToCome t last at out stack (x ∷ l) → RestFirst t last at out stack cells
       go (a_term x) l e s k = absurd (omega arith)
       go (a_rest p) l e s k = record { rest = p; others = l; stacked = s; to_come = k }
       go closing l e s k = absurd (omega arith)
 
 -- A closing bracket.
 
-module _ {t out stack : List ℕ} {c at to cells : ℕ} (e : c ≡ 2) where
+module _ {t stack : List ℕ} {out : Output} {c at cells : ℕ} (e : c ≡ 2) where
   -- there is room for it
-  pub closing_room : Asked c t at out to stack cells → BytesFit out to (41 ∷ [])
+  pub closing_room : Asked c t at out stack cells → Fits out (41 ∷ [])
   closing_room a = let f = first_closing e a.in_hand in record { fits = omega arith }
 
   -- it is written
-  pub closing_put : {after : List ℕ} {byte : ℕ} → Wrote out after to byte (41 ∷ []) → Put c t at out to stack cells after stack at byte cells
+  pub closing_put : {after : Output} → Wrote out after (41 ∷ []) → Put c t at out stack cells after stack at cells
   closing_put w = record {
+    same = w.same;
+    same_length = w.same_length;
     later = omega arith;
     then_on = λ last h.
         let f = first_closing e h in
@@ -146,28 +149,30 @@ module _ {t out stack : List ℕ} {c at to cells : ℕ} (e : c ≡ 2) where
 member_all : {p q : Tree program} {x : Tree term} → p ≡ alt x q → (l : List Piece) → spelt_all (a_rest p ∷ l) ≡ spelt_all (a_term x ∷ a_rest q ∷ l)
 member_all {q} {x} e l = rw (e, members_alt x q, append_assoc)
 
-module _ {t out stack : List ℕ} {at to cells : ℕ} {piece : Code} (r : piece ≡ Rest) where
+module _ {t stack : List ℕ} {out : Output} {at cells : ℕ} {piece : Code} (r : piece ≡ Rest) where
   -- it stands in the table
-  pub rest_inside : Asked (code piece) t at out to stack cells → 2 * at + 2 ≤ length t
+  pub rest_inside : Asked (code piece) t at out stack cells → 2 * at + 2 ≤ length t
   rest_inside a = let f = first_rest (ap code r) a.in_hand in in_table f.to_come.stand.0
 
   module _ {k m : ℕ} (n : NodeIs t at k m) where
     module _ (z : k ≡ 0) where
       -- at its end only the closing bracket is left
-      ended : {last : List ℕ} (f : RestFirst t last at out to stack cells) → f.rest ≡ empty
+      ended : {last : List ℕ} (f : RestFirst t last at out stack cells) → f.rest ≡ empty
       ended f = program_at f.rest 0 (sym n.kind_is ∙ z) f.to_come.stand.0
 
       -- for which there is room
-      pub end_room : Asked (code piece) t at out to stack cells → BytesFit out to (41 ∷ [])
+      pub end_room : Asked (code piece) t at out stack cells → Fits out (41 ∷ [])
       end_room a =
           let f = first_rest (ap code r) a.in_hand in
           let w = simp length-append at f.to_come.room.fits in
           record { fits = omega arith }
 
       -- it is written
-      pub end_put : {after : List ℕ} {byte : ℕ} → Wrote out after to byte (41 ∷ []) → Put (code piece) t at out to stack cells after stack (at + 1) byte cells
+      pub end_put : {after : Output} → Wrote out after (41 ∷ []) → Put (code piece) t at out stack cells after stack (at + 1) cells
       unfolding nodes
       end_put w = record {
+        same = w.same;
+        same_length = w.same_length;
         later = omega arith;
         then_on = λ last h.
             let f = first_rest (ap code r) h in
@@ -180,16 +185,16 @@ module _ {t out stack : List ℕ} {at to cells : ℕ} {piece : Code} (r : piece 
       }
 
     module _ (z : k ≡ 0 → ⊥) where
-      member : {last : List ℕ} (f : RestFirst t last at out to stack cells) → IsAlt t at f.rest
+      member : {last : List ℕ} (f : RestFirst t last at out stack cells) → IsAlt t at f.rest
       member f = alt_at f.rest (λ e. z (n.kind_is ∙ e)) f.to_come.stand.0
 
       -- there is room on the stack for what follows its next member
-      pub rest_cell : Asked (code piece) t at out to stack cells → cells < length stack
+      pub rest_cell : Asked (code piece) t at out stack cells → cells < length stack
       rest_cell a = let f = first_rest (ap code r) a.in_hand in omega (arith, few stack cells f.others f.stacked, nodes_positive f.rest)
 
       module _ {after : List ℕ} {next : ℕ} (p : Pushed stack after cells next 1) where
         -- its next member is a term to be written
-        member_in_hand : {last : List ℕ} → InHand (code piece) t last at out to stack cells → InHand 0 t last (at + 1) out to after next
+        member_in_hand : {last : List ℕ} → InHand (code piece) t last at out stack cells → InHand 0 t last (at + 1) out after next
         unfolding nodes
         member_in_hand h =
             let f = first_rest (ap code r) h in
@@ -201,16 +206,16 @@ module _ {t out stack : List ℕ} {at to cells : ℕ} {piece : Code} (r : piece 
               is = refl;
               others = a_rest s ∷ f.others;
               stacked = more (a_rest s) f.others f.stacked p;
-              to_come = on (a_rest f.rest ∷ f.others) (a_term q.thread ∷ a_rest s ∷ f.others) f.to_come (wrote_none out to) (member_all q.is f.others) (q.stands, (q.next, stand_at t f.others (omega arith) f.to_come.stand.1)) (omega arith) p.same_length;
+              to_come = on (a_rest f.rest ∷ f.others) (a_term q.thread ∷ a_rest s ∷ f.others) f.to_come (wrote_none out) (member_all q.is f.others) (q.stands, (q.next, stand_at t f.others (omega arith) f.to_come.stand.1)) (omega arith) p.same_length;
             }
 
         -- that is asked for
-        pub member_asked : Asked (code piece) t at out to stack cells → Asked 0 t (at + 1) out to after next
+        pub member_asked : Asked (code piece) t at out stack cells → Asked 0 t (at + 1) out after next
         member_asked a = record { last = a.last; in_hand = member_in_hand a.in_hand }
 
         -- and done
-        pub member_put : {out' stack' : List ℕ} {node byte cells' : ℕ} → Put 0 t (at + 1) out to after next out' stack' node byte cells' → Put (code piece) t at out to stack cells out' stack' node byte cells'
-        member_put g = record { later = g.later; then_on = λ last h. g.then_on last (member_in_hand h) }
+        pub member_put : {out' : Output} {stack' : List ℕ} {node cells' : ℕ} → Put 0 t (at + 1) out after next out' stack' node cells' → Put (code piece) t at out stack cells out' stack' node cells'
+        member_put g = record { same = g.same; same_length = g.same_length; later = g.later; then_on = λ last h. g.then_on last (member_in_hand h) }
 
 -- A term.
 
@@ -263,53 +268,53 @@ two_terms Guard l f g h = (omega arith, λ e. omega arith)
 two_terms Unification l f g h = (omega arith, λ e. omega arith)
 
 -- with what it begins with at least a byte is written
-head_later : (k m : ℕ) {out mid : List ℕ} {to byte : ℕ} → Wrote out mid to byte (head_bytes k m) → to < byte
+head_later : (k m : ℕ) {out mid : Output} → Wrote out mid (head_bytes k m) → out.at < mid.at
 unfolding head_bytes
 head_later k m w = omega arith
 
-module _ {t out stack : List ℕ} {at to cells : ℕ} where
+module _ {t stack : List ℕ} {out : Output} {at cells : ℕ} where
   -- it stands in the table
-  pub term_inside : Asked 0 t at out to stack cells → 2 * at + 2 ≤ length t
+  pub term_inside : Asked 0 t at out stack cells → 2 * at + 2 ≤ length t
   term_inside a = let f = first_term refl a.in_hand in in_table f.to_come.stand.0
 
   -- there is room on the stack for as many cells as it has nodes
-  term_cells : {last : List ℕ} (f : TermFirst t last at out to stack cells) → cells + nodes f.tree ≤ length stack
+  term_cells : {last : List ℕ} (f : TermFirst t last at out stack cells) → cells + nodes f.tree ≤ length stack
   term_cells f = omega (arith, few stack cells f.others f.stacked)
 
   -- and in the output for its bytes
-  term_bytes : {last : List ℕ} (f : TermFirst t last at out to stack cells) → to + length (spelt f.tree) ≤ length out
+  term_bytes : {last : List ℕ} (f : TermFirst t last at out stack cells) → out.at + length (spelt f.tree) ≤ length out.bytes.now
   term_bytes f = let w = simp length-append at f.to_come.room.fits in omega arith
 
   -- a kind stands there
-  pub kind_there : {j m : ℕ} → NodeIs t at j m → Asked 0 t at out to stack cells → j < 11
+  pub kind_there : {j m : ℕ} → NodeIs t at j m → Asked 0 t at out stack cells → j < 11
   kind_there i a = let f = first_term refl a.in_hand in (term_node i f.tree f.to_come.stand.0).small
 
   -- there is room for a cell
-  pub close_cell : Asked 0 t at out to stack cells → cells < length stack
+  pub close_cell : Asked 0 t at out stack cells → cells < length stack
   close_cell a = let f = first_term refl a.in_hand in omega (arith, term_cells f, nodes_positive f.tree)
 
   module _ (k : Kind) {j m : ℕ} (e : kind_code k ≡ j) (i : NodeIs t at j m) where
-    node_of : {last : List ℕ} (f : TermFirst t last at out to stack cells) → TermNode (kind_code k) m f.tree
+    node_of : {last : List ℕ} (f : TermFirst t last at out stack cells) → TermNode (kind_code k) m f.tree
     node_of f = term_node (of_kind k e i) f.tree f.to_come.stand.0
 
-    parts_of : {last : List ℕ} (f : TermFirst t last at out to stack cells) → Parts t at f.tree (kind_code k)
+    parts_of : {last : List ℕ} (f : TermFirst t last at out stack cells) → Parts t at f.tree (kind_code k)
     parts_of f = parts_at (of_kind k e i) f.tree f.to_come.stand.0
 
     -- one with parts is an abstraction, or has terms
-    with_parts : {last : List ℕ} (f : TermFirst t last at out to stack cells) {r : ℕ} → r ≡ get_or parts (kind_code k) 0 → (r ≡ 0 → ⊥) → 5 ≤ kind_code k
+    with_parts : {last : List ℕ} (f : TermFirst t last at out stack cells) {r : ℕ} → r ≡ get_or parts (kind_code k) 0 → (r ≡ 0 → ⊥) → 5 ≤ kind_code k
     with_parts f q z = some_parts k (node_of f).large (λ v. z (q ∙ v))
 
     -- there is room for what it begins with
-    pub head_asked : Asked 0 t at out to stack cells → BytesFit out to (head_bytes (kind_code k) m)
+    pub head_asked : Asked 0 t at out stack cells → Fits out (head_bytes (kind_code k) m)
     head_asked a = let f = first_term refl a.in_hand in record { fits = omega (arith, term_bytes f, (node_of f).lengths) }
 
     module _ {s₁ : List ℕ} {c₁ : ℕ} (p₁ : Pushed stack s₁ cells c₁ 2) where
       -- a kind with parts: for one more
-      pub part_cell : {r : ℕ} → r ≡ get_or parts (kind_code k) 0 → (r ≡ 0 → ⊥) → Asked 0 t at out to stack cells → c₁ < length s₁
+      pub part_cell : {r : ℕ} → r ≡ get_or parts (kind_code k) 0 → (r ≡ 0 → ⊥) → Asked 0 t at out stack cells → c₁ < length s₁
       part_cell q z a = let f = first_term refl a.in_hand in omega (arith, term_cells f, (parts_of f).some (with_parts f q z))
 
       -- a pair: for a third one
-      pub second_cell : {s₂ : List ℕ} {c₂ r : ℕ} → Pushed s₁ s₂ c₁ c₂ 0 → r ≡ get_or parts (kind_code k) 0 → (r ≡ 0 → ⊥) → (k ≡ Abstraction → ⊥) → (k ≡ Allocated → ⊥) → (k ≡ Fresh → ⊥) → Asked 0 t at out to stack cells → c₂ < length s₂
+      pub second_cell : {s₂ : List ℕ} {c₂ r : ℕ} → Pushed s₁ s₂ c₁ c₂ 0 → r ≡ get_or parts (kind_code k) 0 → (r ≡ 0 → ⊥) → (k ≡ Abstraction → ⊥) → (k ≡ Allocated → ⊥) → (k ≡ Fresh → ⊥) → Asked 0 t at out stack cells → c₂ < length s₂
       second_cell p₂ p z g h o a =
           let f = first_term refl a.in_hand in
           let l = two_terms k (with_parts f p z) g h o in
@@ -317,17 +322,19 @@ module _ {t out stack : List ℕ} {at to cells : ℕ} where
           omega (arith, term_cells f, nodes_positive q.first, nodes_positive q.second)
 
     -- its bytes
-    term_all : {last : List ℕ} (f : TermFirst t last at out to stack cells) → spelt_all (a_term f.tree ∷ f.others) ≡ head_bytes (kind_code k) m ++ (inner f.tree ++ (41 ∷ spelt_all f.others))
+    term_all : {last : List ℕ} (f : TermFirst t last at out stack cells) → spelt_all (a_term f.tree ∷ f.others) ≡ head_bytes (kind_code k) m ++ (inner f.tree ++ (41 ∷ spelt_all f.others))
     term_all f = rw (node_of f).is (simp append_assoc)
 
-    module _ {mid : List ℕ} {byte : ℕ} (w : Wrote out mid to byte (head_bytes (kind_code k) m)) where
+    module _ {mid : Output} (w : Wrote out mid (head_bytes (kind_code k) m)) where
       -- behind it there is room for a byte
-      pub bracket_room : (b : ℕ) → Asked 0 t at out to stack cells → BytesFit mid byte (b ∷ [])
+      pub bracket_room : (b : ℕ) → Asked 0 t at out stack cells → Fits mid (b ∷ [])
       bracket_room b a = let f = first_term refl a.in_hand in record { fits = omega (arith, term_bytes f, (node_of f).lengths) }
 
       -- a kind without parts: with the closing bracket all is written
-      pub leaf_put : {after : List ℕ} {next r : ℕ} → r ≡ get_or parts (kind_code k) 0 → r ≡ 0 → Wrote mid after byte next (41 ∷ []) → Put 0 t at out to stack cells after stack (at + 1) next cells
+      pub leaf_put : {after : Output} {r : ℕ} → r ≡ get_or parts (kind_code k) 0 → r ≡ 0 → Wrote mid after (41 ∷ []) → Put 0 t at out stack cells after stack (at + 1) cells
       leaf_put p z v = record {
+        same = v.same ∙ w.same;
+        same_length = v.same_length ∙ w.same_length;
         later = omega (arith, head_later (kind_code k) m w);
         then_on = λ last h.
             let f = first_term refl h in
@@ -341,8 +348,10 @@ module _ {t out stack : List ℕ} {at to cells : ℕ} where
 
       module _ {s₁ : List ℕ} {c₁ : ℕ} (p₁ : Pushed stack s₁ cells c₁ 2) where
         -- an abstraction: the opening bracket is written, the members of its body are left
-        pub body_put : {after s₂ : List ℕ} {next c₂ : ℕ} → (k ≡ Abstraction) ⊎ (k ≡ Allocated) → Wrote mid after byte next (40 ∷ []) → Pushed s₁ s₂ c₁ c₂ 1 → Put 0 t at out to stack cells after s₂ (at + 1) next c₂
+        pub body_put : {after : Output} {s₂ : List ℕ} {c₂ : ℕ} → (k ≡ Abstraction) ⊎ (k ≡ Allocated) → Wrote mid after (40 ∷ []) → Pushed s₁ s₂ c₁ c₂ 1 → Put 0 t at out stack cells after s₂ (at + 1) c₂
         body_put l v p₂ = record {
+          same = v.same ∙ w.same;
+          same_length = v.same_length ∙ w.same_length;
           later = omega (arith, head_later (kind_code k) m w);
           then_on = λ last h.
               let f = first_term refl h in
@@ -356,8 +365,10 @@ module _ {t out stack : List ℕ} {at to cells : ℕ} where
 
         module _ {s₂ : List ℕ} {c₂ : ℕ} (p₂ : Pushed s₁ s₂ c₁ c₂ 0) where
           -- a fresh node: its term is left
-          pub fresh_put : k ≡ Fresh → Put 0 t at out to stack cells mid s₂ (at + 1) byte c₂
+          pub fresh_put : k ≡ Fresh → Put 0 t at out stack cells mid s₂ (at + 1) c₂
           fresh_put g = record {
+            same = w.same;
+            same_length = w.same_length;
             later = head_later (kind_code k) m w;
             then_on = λ last h.
                 let f = first_term refl h in
@@ -370,8 +381,10 @@ module _ {t out stack : List ℕ} {at to cells : ℕ} where
           }
 
           -- a pair: its two terms are left
-          pub pair_put : {s₃ : List ℕ} {c₃ r : ℕ} → r ≡ get_or parts (kind_code k) 0 → (r ≡ 0 → ⊥) → (k ≡ Abstraction → ⊥) → (k ≡ Allocated → ⊥) → (k ≡ Fresh → ⊥) → Pushed s₂ s₃ c₂ c₃ 0 → Put 0 t at out to stack cells mid s₃ (at + 1) byte c₃
+          pub pair_put : {s₃ : List ℕ} {c₃ r : ℕ} → r ≡ get_or parts (kind_code k) 0 → (r ≡ 0 → ⊥) → (k ≡ Abstraction → ⊥) → (k ≡ Allocated → ⊥) → (k ≡ Fresh → ⊥) → Pushed s₂ s₃ c₂ c₃ 0 → Put 0 t at out stack cells mid s₃ (at + 1) c₃
           pair_put p z g h o p₃ = record {
+            same = w.same;
+            same_length = w.same_length;
             later = head_later (kind_code k) m w;
             then_on = λ last a.
                 let f = first_term refl a in
@@ -388,30 +401,31 @@ module _ {t out stack : List ℕ} {at to cells : ℕ} where
 
 -- The whole text.
 
--- what is left of the text since the output was `start` and the next byte `from`; the stack has kept its length
-pub record TextLeft (t start : List ℕ) (from : ℕ) (out : List ℕ) (size : ℕ) (stack : List ℕ) (node byte cells : ℕ) : Type 0 where
+-- what is left of the text since the output was `start`
+pub record TextLeft (t : List ℕ) (start out : Output) (stack : List ℕ) (node cells : ℕ) : Type 0 where
   pub last : List ℕ
-  pub is : (p : Tree program) → Stands t 0 p → last ≡ sets start from (spelt p ++ (41 ∷ []))
-  pub left : Unwritten t last node out byte stack cells
-  pub same : length out ≡ length start
-  pub same_size : length stack ≡ size
+  pub is : (p : Tree program) → Stands t 0 p → last ≡ sets start.bytes.now start.at (spelt p ++ (41 ∷ []))
+  pub left : Unwritten t last node out stack cells
+  pub same : out.bytes.ghost_name ≡ start.bytes.ghost_name
+  pub same_length : length out.bytes.now ≡ length start.bytes.now
 
-module _ {t out : List ℕ} (r : RoomForText t out) where
+-- there is room on the stack for the program's cell
+pub first_cell : {t out stack : List ℕ} → RoomForText t out → CellsForText t stack → 0 < length stack
+first_cell r g = let p = r.program_there in omega (arith, g.enough p r.stands, nodes_positive p)
+
+-- before anything is written
+module _ {t : List ℕ} {out : Output} (none : out.at ≡ 0) (r : RoomForText t out.bytes.now) where
   -- there is room for the opening bracket
-  pub opening_room : BytesFit out 0 (40 ∷ [])
+  pub opening_room : Fits out (40 ∷ [])
   opening_room = let p = r.program_there in record { fits = omega (arith, ap length (text_is p), bracketed_length p) }
 
   module _ {stack : List ℕ} (g : CellsForText t stack) where
-    -- and for the program's cell
-    pub first_cell : 0 < length stack
-    first_cell = let p = r.program_there in omega (arith, g.enough p r.stands, nodes_positive p)
-
-    -- behind the opening bracket the program's members are left
-    pub text_start : {start after : List ℕ} {from cells : ℕ} → Wrote out start 0 from (40 ∷ []) → Pushed stack after 0 cells 1 → TextLeft t start from start (length after) after 0 from cells
-    text_start {start} {from} w p =
+    -- behind it the program's members are left
+    pub text_start : {start : Output} {after : List ℕ} {cells : ℕ} → Wrote out start (40 ∷ []) → Pushed stack after 0 cells 1 → TextLeft t start start after 0 cells
+    text_start {start} w p =
         let x = r.program_there in
         record {
-          last = sets start from (spelt x ++ (41 ∷ []));
+          last = sets start.bytes.now start.at (spelt x ++ (41 ∷ []));
           is = λ y h. rw (one_tree y x h r.stands);
           left = record {
             pieces = a_rest x ∷ [];
@@ -424,30 +438,33 @@ module _ {t out : List ℕ} (r : RoomForText t out) where
             };
           };
           same = refl;
-          same_size = refl;
+          same_length = refl;
         }
 
-module _ {t start out stack : List ℕ} {from size node byte cells : ℕ} (h : TextLeft t start from out size stack node byte cells) where
-  module _ (f : 0 < cells) where
-    -- the stack has the cell on top
-    pub top_inside : cells - 1 < length stack
-    top_inside = let u = h.left in omega (arith, few stack cells u.pieces u.stacked)
+module _ {t stack : List ℕ} {start out : Output} {node cells : ℕ} (h : TextLeft t start out stack node cells) where
+  -- the stack has a cell for each
+  pub top_within : cells ≤ length stack
+  top_within = let u = h.left in omega (arith, few stack cells u.pieces u.stacked)
 
-    module _ {c : ℕ} (q : get_or stack (cells - 1) 0 ≤ 2 → c ≡ get_or stack (cells - 1) 0) where
-      piece_in_hand : InHand c t h.last node out byte stack (cells - 1)
-      piece_in_hand = let u = top_in_hand h.left f in rw (q (rw u.is (cell_small u.piece))) u
+  module _ {rest : List ℕ} {top : ℕ} {piece : Code} (p : Popped stack rest cells top piece) where
+    piece_in_hand : InHand (code piece) t h.last node out rest top
+    piece_in_hand =
+        let e : cells - 1 ≡ top = omega arith in
+        let u : InHand (get_or stack top 0) t h.last node out stack top = rw e at (top_in_hand h.left (omega arith)) in
+        rw (p.same, p.is (rw u.is (cell_small u.piece))) u
 
-      -- its piece is to be written
-      pub top_asked : Asked c t node out byte stack (cells - 1)
-      top_asked = record { last = h.last; in_hand = piece_in_hand }
+    -- the piece on top is to be written
+    pub top_asked : Asked (code piece) t node out rest top
+    top_asked = record { last = h.last; in_hand = piece_in_hand }
 
-      -- and then what is left is less
-      pub text_next : {out' stack' : List ℕ} {node' byte' cells' : ℕ} → Put c t node out byte stack (cells - 1) out' stack' node' byte' cells' → length out' ≡ length out → length stack' ≡ length stack → TextLeft t start from out' size stack' node' byte' cells'
-      text_next g e d = record { last = h.last; is = h.is; left = g.then_on h.last piece_in_hand; same = e ∙ h.same; same_size = d ∙ h.same_size }
+    -- and then what is left is less
+    pub text_next : {out' : Output} {stack' : List ℕ} {node' cells' : ℕ} → Put (code piece) t node out rest top out' stack' node' cells' → TextLeft t start out' stack' node' cells'
+    text_next g = record { last = h.last; is = h.is; left = g.then_on h.last piece_in_hand; same = g.same ∙ h.same; same_length = g.same_length ∙ h.same_length }
 
   -- with no cell left the text is written
-  pub text_put : {before : List ℕ} → Wrote before start 0 from (40 ∷ []) → cells ≤ 0 → TextWritten t before out
-  text_put {before} w z = record {
+  pub text_put : {before : Output} → before.at ≡ 0 → Wrote before start (40 ∷ []) → cells ≤ 0 → TextWritten t before.bytes.now out.bytes.now
+  text_put {before} none w z = record {
     is = λ p g.
-        cc (all_written h.left z, h.is p g, text_is p, sets_append before 0 (40 ∷ []) (spelt p ++ (41 ∷ [])), w.is, w.next_is);
+        let next : start.at ≡ 1 = omega (arith, w.next_is) in
+        cc (all_written h.left z, h.is p g, text_is p, sets_append before.bytes.now 0 (40 ∷ []) (spelt p ++ (41 ∷ [])), w.is, none, next);
   }

@@ -4,8 +4,10 @@ use mathlib.Core.Bool.{Bool, true, false}
 use mathlib.Core.List.{List, [], ◌∷◌, ◌++◌, append_assoc, append-nil}
 use Prim.Native.Nat.{ℕ, zero, suc, ◌+◌, ◌-◌, ◌/◌, ◌%◌, ◌≤◌, ◌<◌}
 use native.Mathlib.Omega.{arith}
-use lib.ListN.{length, get_or, set, length-append, length-set}
-use lib.Seq.{sets, set_comm}
+use lib.ListN.{length, get_or, set, take, drop, length-append, length-set}
+use lib.Seq.{sets, set_comm, sets-eq, length-sets, drop-drop}
+use borrow.Rule.Slice.Mut.{set_vals}
+use borrow.Rule.Slice.PartMut.{put_mid}
 use Rattle.calculus.specs.Tree.{term, program, Pair, app, guard, unif, code, at, Tree, empty, alt, bound, free, con, abs, fresh, two, pair_kind, nodes}
 use Rattle.calculus.specs.Sexp.{decimal}
 use Rattle.calculus.specs.Text.{text, raw_text}
@@ -13,7 +15,8 @@ use Rattle.calculus.proofs.Decimals.{by_tenths, decimal_small, decimal_large, de
 use Rattle.calculus.proofs.Preorders.{nodes_positive}
 use Rattle.table.specs.Nodes.{NodeIs, Stands}
 use Rattle.table.proofs.Trees.{kind_of, number_of, Seen, see}
-use Rattle.writing.specs.Writer.{DigitCount, tag_bytes, numeral, numeral_if, has_number, tags, head_bytes, spelt, BytesFit, Wrote}
+use Rattle.writing.specs.Writer.{DigitCount, tag_bytes, numeral, numeral_if, has_number, tags, head_bytes, spelt, Fits, Wrote}
+use Rattle.writing.specs.declared.write.Output.{Output}
 use Rattle.table.proofs.Sets.{sets_append as one_after}
 
 -- Stores.
@@ -30,12 +33,25 @@ sets_last l i (y ∷ a) x =
     sets_last (set l i y) (suc i) a x ∙ rw (e, set_comm l i (i + suc (length a)) y x (omega arith))
 
 -- nothing is written
-pub wrote_none : (out : List ℕ) (to : ℕ) → Wrote out out to to []
-wrote_none out to = record { is = refl; same_length = refl; next_is = omega arith }
+pub wrote_none : (out : Output) → Wrote out out []
+wrote_none out = record { same = refl; is = refl; same_length = refl; next_is = omega arith }
 
 -- more is written behind it
-pub wrote_more : {out mid after : List ℕ} {to m n : ℕ} {a b : List ℕ} → Wrote out mid to m a → Wrote mid after m n b → Wrote out after to n (a ++ b)
-wrote_more {out} {to} {a} {b} h g = record { is = cc (sets_append out to a b, h.is, h.next_is, g.is); same_length = omega arith; next_is = omega (arith, length-append a b) }
+pub wrote_more : {out mid after : Output} {a b : List ℕ} → Wrote out mid a → Wrote mid after b → Wrote out after (a ++ b)
+wrote_more {out} {a} {b} h g = record {
+  same = g.same ∙ h.same;
+  is = cc (sets_append out.bytes.now out.at a b, h.is, h.next_is, g.is);
+  same_length = omega arith;
+  next_is = omega (arith, length-append a b);
+}
+
+-- bytes that are copied over a part of the output are written there
+pub copied : (out : Output) {now b : List ℕ} → Fits out b → now ≡ b → Wrote out (record { bytes = set_vals (put_mid out.at (out.at + length b - out.at) out.bytes.now now) out.bytes; at = out.at + length b }) b
+copied out {now} {b} h e =
+    let o = out.bytes.now in
+    let long : out.at + length b - out.at ≡ length b = omega arith in
+    let is : put_mid out.at (out.at + length b - out.at) o now ≡ sets o out.at b = rw (e, long, drop-drop, sets-eq b o out.at h.fits) (sym (append_assoc (take out.at o) b (drop (out.at + length b) o))) in
+    record { same = refl; is = is; same_length = ap length is ∙ length-sets o out.at b; next_is = refl }
 
 -- A number.
 
@@ -66,68 +82,69 @@ unfolding numeral
 numeral_is n h = rw (decimal_small (length (decimal n)) (omega (arith, decimal_length 5 n (omega arith) (omega arith))))
 
 -- While the digits are written from the last to the first: what the remaining ones make of the output is the whole decimal.
-pub record DigitsLeft (start out : List ℕ) (n d b left i : ℕ) : Type 0 where
-  pub low : b ≤ i
-  pub high : i ≤ b + d
-  pub rest : sets out b (last_digits (i - b) left) ≡ sets start b (decimal n)
-  pub same : length out ≡ length start
-  pub fits : b + d ≤ length start
+pub record DigitsLeft (start out : Output) (n d left i : ℕ) : Type 0 where
+  pub same : out.bytes.ghost_name ≡ start.bytes.ghost_name
+  pub low : start.at ≤ i
+  pub high : i ≤ start.at + d
+  pub rest : sets out.bytes.now start.at (last_digits (i - start.at) left) ≡ sets start.bytes.now start.at (decimal n)
+  pub same_length : length out.bytes.now ≡ length start.bytes.now
+  pub fits : start.at + d ≤ length start.bytes.now
 
-module _ {out : List ℕ} {n d to : ℕ} (small : n < 65536) (count : DigitCount n d) (room : BytesFit out to (numeral n)) where
-  all_fits : to + (2 + d) ≤ length out
+module _ {out : Output} {n d : ℕ} (small : n < 65536) (count : DigitCount n d) (room : Fits out (numeral n)) where
+  all_fits : out.at + (2 + d) ≤ length out.bytes.now
   all_fits = omega (arith, ap length (numeral_is n small))
 
   -- there is room for the digit that says its length
-  pub length_room : (x : ℕ) → BytesFit out to (x ∷ [])
+  pub length_room : (x : ℕ) → Fits out (x ∷ [])
   length_room x = record { fits = omega (arith, all_fits) }
 
-  module _ {first : List ℕ} {a x : ℕ} (f : Wrote out first to a (x ∷ [])) where
+  module _ {first : Output} {x : ℕ} (f : Wrote out first (x ∷ [])) where
     -- and for the colon
-    pub colon_room : BytesFit first a (58 ∷ [])
+    pub colon_room : Fits first (58 ∷ [])
     colon_room = record { fits = omega (arith, all_fits) }
 
-    -- before the last digit all are left
-    pub digits_start : {start : List ℕ} {b : ℕ} → Wrote first start a b (58 ∷ []) → DigitsLeft start start n d b n (b + d)
-    digits_start {b} g =
-        let e : b + d - b ≡ length (decimal n) = omega arith in
-        record {
-          low = omega arith;
-          high = omega arith;
-          rest = rw (e, all_digits n);
-          same = refl;
-          fits = omega (arith, all_fits);
-        }
+    module _ {start : Output} (g : Wrote first start (58 ∷ [])) where
+      -- before the last digit all are left
+      pub digits_start : DigitsLeft start start n d n (start.at + d)
+      digits_start =
+          let e : start.at + d - start.at ≡ length (decimal n) = omega arith in
+          record {
+            same = refl;
+            low = omega arith;
+            high = omega arith;
+            rest = rw (e, all_digits n);
+            same_length = refl;
+            fits = omega (arith, all_fits);
+          }
 
 -- one digit written, one fewer left
-pub digits_next : {start out : List ℕ} {n d b left i : ℕ} → DigitsLeft start out n d b left i → b < i → DigitsLeft start (set out (i - 1) (48 + left % 10)) n d b (left / 10) (i - 1)
+pub digits_next : {start out : Output} {n d left i : ℕ} → DigitsLeft start out n d left i → start.at < i → DigitsLeft start (record { bytes = set_vals (set out.bytes.now (i - 1) (48 + left % 10)) out.bytes; at = out.at }) n d (left / 10) (i - 1)
 unfolding last_digits
-digits_next {out} {b} {left} {i} h g =
-    let k : ℕ = i - 1 - b in
-    let more : i - b ≡ suc k = omega arith in
-    let there : b + length (last_digits k (left / 10)) ≡ i - 1 = omega (arith, last_length k (left / 10)) in
+digits_next {start} {out} {left} {i} h g =
+    let o = out.bytes.now in
+    let k : ℕ = i - 1 - start.at in
+    let more : i - start.at ≡ suc k = omega arith in
+    let there : start.at + length (last_digits k (left / 10)) ≡ i - 1 = omega (arith, last_length k (left / 10)) in
     record {
+      same = h.same;
       low = omega arith;
       high = omega arith;
-      rest = sym (rw there at (sets_last out b (last_digits k (left / 10)) (48 + left % 10))) ∙ (rw more at h.rest);
-      same = length-set out (i - 1) (48 + left % 10) ∙ h.same;
+      rest = sym (rw there at (sets_last o start.at (last_digits k (left / 10)) (48 + left % 10))) ∙ (rw more at h.rest);
+      same_length = length-set o (i - 1) (48 + left % 10) ∙ h.same_length;
       fits = h.fits;
     }
 
 -- its length, the colon and all digits are the number
-pub number_wrote : {out first start after : List ℕ} {n d to a b left i : ℕ} → n < 65536 → DigitCount n d → Wrote out first to a ((48 + d) ∷ []) → Wrote first start a b (58 ∷ []) → DigitsLeft start after n d b left i → i ≤ b → Wrote out after to (b + d) (numeral n)
+pub number_wrote : {out first start last : Output} {n d left i : ℕ} → n < 65536 → DigitCount n d → Wrote out first ((48 + d) ∷ []) → Wrote first start (58 ∷ []) → DigitsLeft start last n d left i → i ≤ start.at → Wrote out (record { bytes = last.bytes; at = start.at + d }) (numeral n)
 unfolding last_digits
-number_wrote {n} {d} {b} {i} small count f g h z =
-    let none : i - b ≡ 0 = omega arith in
-    rw (numeral_is n small, ← count.is) (wrote_more f (wrote_more g (record { is = rw none at h.rest; same_length = h.same; next_is = omega arith })))
+number_wrote {start} {n} {d} {i} small count f g h z =
+    let none : i - start.at ≡ 0 = omega arith in
+    rw (numeral_is n small, ← count.is) (wrote_more f (wrote_more g (record { same = h.same; is = rw none at h.rest; same_length = h.same_length; next_is = omega arith })))
 
 -- A term's head.
 
--- bracket and tag, byte by byte
-pub tag_wrote : {l₀ l₁ l₂ l₃ l₄ : List ℕ} {tag to a b c next : ℕ} → Wrote l₀ l₁ to a (40 ∷ []) → Wrote l₁ l₂ a b (49 ∷ []) → Wrote l₂ l₃ b c (58 ∷ []) → Wrote l₃ l₄ c next (tag ∷ []) → Wrote l₀ l₄ to next (tag_bytes tag)
-tag_wrote u v w x = wrote_more u (wrote_more v (wrote_more w x))
-
 -- a head begins with a tag
-pub tag_room : (k n tag : ℕ) {out : List ℕ} {to : ℕ} → BytesFit out to (head_bytes k n) → BytesFit out to (tag_bytes tag)
+pub tag_room : (k n tag : ℕ) {out : Output} → Fits out (head_bytes k n) → Fits out (tag_bytes tag)
 unfolding head_bytes
 tag_room k n tag h = record { fits = omega arith }
 
@@ -137,16 +154,16 @@ module _ (k n : ℕ) {r : Bool} (e : r ≡ get_or has_number k false) where
   head_is = rw e
 
   -- behind the tag there is room for the number, where the kind has one
-  pub number_room : {out mid : List ℕ} {to byte tag : ℕ} → Wrote out mid to byte (tag_bytes tag) → r ≡ true → BytesFit out to (head_bytes k n) → BytesFit mid byte (numeral n)
+  pub number_room : {out mid : Output} {tag : ℕ} → Wrote out mid (tag_bytes tag) → r ≡ true → Fits out (head_bytes k n) → Fits mid (numeral n)
   number_room w t h = record { fits = omega (arith, rw t at (ap length head_is)) }
 
-  module _ {out mid : List ℕ} {to byte tag : ℕ} (g : tag ≡ get_or tags k 0) (w : Wrote out mid to byte (tag_bytes tag)) where
+  module _ {out mid : Output} {tag : ℕ} (g : tag ≡ get_or tags k 0) (w : Wrote out mid (tag_bytes tag)) where
     -- tag and number are the head of a kind with a number
-    pub numbered_head : {after : List ℕ} {next : ℕ} → r ≡ true → Wrote mid after byte next (numeral n) → Wrote out after to next (head_bytes k n)
+    pub numbered_head : {after : Output} → r ≡ true → Wrote mid after (numeral n) → Wrote out after (head_bytes k n)
     numbered_head t v = rw (head_is, t, ← g) (wrote_more w v)
 
     -- the tag is the head of a kind without one
-    pub plain_head : r ≡ false → Wrote out mid to byte (head_bytes k n)
+    pub plain_head : r ≡ false → Wrote out mid (head_bytes k n)
     plain_head t = rw (head_is, t, ← g) w
 
 -- A term by its parts.

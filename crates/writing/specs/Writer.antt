@@ -5,6 +5,7 @@ use Rattle.calculus.specs.Tree.{Sort, term, program, Tree, nodes}
 use Rattle.calculus.specs.Sexp.{decimal, atom, bytes}
 use Rattle.calculus.specs.Text.{encode, raw}
 use Rattle.table.specs.Nodes.{Stands}
+use Rattle.writing.specs.declared.write.Output.{Output}
 
 -- a number's digits
 pub record DigitCount (n r : ℕ) : Type 0 where
@@ -49,15 +50,16 @@ unfoldable pub spelt : {s : Sort} → Tree s → List ℕ
 unfolding bytes encode raw
 spelt x = bytes (encode (raw x))
 
--- so many bytes fit behind the place
-pub record BytesFit (out : List ℕ) (to : ℕ) (b : List ℕ) : Type 0 where
-  pub fits : to + length b ≤ length out
+-- so many bytes fit behind those that are written
+pub record Fits (out : Output) (b : List ℕ) : Type 0 where
+  pub fits : out.at + length b ≤ length out.bytes.now
 
--- the bytes stand there, the rest is as it was, and the next byte is the one behind them
-pub record Wrote (out after : List ℕ) (to next : ℕ) (b : List ℕ) : Type 0 where
-  pub is : after ≡ sets out to b
-  pub same_length : length after ≡ length out
-  pub next_is : next ≡ to + length b
+-- the bytes stand there, in the same lent bytes, the rest is as it was, and the next byte is the one behind them
+pub record Wrote (old new : Output) (b : List ℕ) : Type 0 where
+  pub same : new.bytes.ghost_name ≡ old.bytes.ghost_name
+  pub is : new.bytes.now ≡ sets old.bytes.now old.at b
+  pub same_length : length new.bytes.now ≡ length old.bytes.now
+  pub next_is : new.at ≡ old.at + length b
 
 -- the cell is put on top, those below are as they were
 pub record Pushed (stack after : List ℕ) (cells next c : ℕ) : Type 0 where
@@ -105,32 +107,34 @@ Stacked stack cells [] = cells ≡ 0
 Stacked stack cells (x ∷ l) = (below : ℕ) × ((cells ≡ below + 1) × ((get_or stack below 0 ≡ cell x) × Stacked stack below l))
 
 -- the pieces are still to be written, with room for them, and then the output is the one at last
-pub record ToCome (t last : List ℕ) (at : ℕ) (out : List ℕ) (to : ℕ) (stack : List ℕ) (l : List Piece) : Type 0 where
+pub record ToCome (t last : List ℕ) (at : ℕ) (out : Output) (stack : List ℕ) (l : List Piece) : Type 0 where
   pub stand : StandAll t at l
-  pub room : BytesFit out to (spelt_all l)
-  pub makes : sets out to (spelt_all l) ≡ last
+  pub room : Fits out (spelt_all l)
+  pub makes : sets out.bytes.now out.at (spelt_all l) ≡ last
   pub enough : cells_for l ≤ length stack
 
 -- those on the stack are
-pub record Unwritten (t last : List ℕ) (at : ℕ) (out : List ℕ) (to : ℕ) (stack : List ℕ) (cells : ℕ) : Type 0 where
+pub record Unwritten (t last : List ℕ) (at : ℕ) (out : Output) (stack : List ℕ) (cells : ℕ) : Type 0 where
   pub pieces : List Piece
   pub stacked : Stacked stack cells pieces
-  pub to_come : ToCome t last at out to stack pieces
+  pub to_come : ToCome t last at out stack pieces
 
 -- one whose cell was c, and then those on the stack
-pub record InHand (c : ℕ) (t last : List ℕ) (at : ℕ) (out : List ℕ) (to : ℕ) (stack : List ℕ) (cells : ℕ) : Type 0 where
+pub record InHand (c : ℕ) (t last : List ℕ) (at : ℕ) (out : Output) (stack : List ℕ) (cells : ℕ) : Type 0 where
   pub piece : Piece
   pub is : c ≡ cell piece
   pub others : List Piece
   pub stacked : Stacked stack cells others
-  pub to_come : ToCome t last at out to stack (piece ∷ others)
+  pub to_come : ToCome t last at out stack (piece ∷ others)
 
 -- such a piece is to be written
-pub record Asked (c : ℕ) (t : List ℕ) (at : ℕ) (out : List ℕ) (to : ℕ) (stack : List ℕ) (cells : ℕ) : Type 0 where
+pub record Asked (c : ℕ) (t : List ℕ) (at : ℕ) (out : Output) (stack : List ℕ) (cells : ℕ) : Type 0 where
   pub last : List ℕ
-  pub in_hand : InHand c t last at out to stack cells
+  pub in_hand : InHand c t last at out stack cells
 
 -- at least its first byte is written, and what is still to be written of it lies on the stack
-pub record Put (c : ℕ) (t : List ℕ) (at : ℕ) (out : List ℕ) (to : ℕ) (stack : List ℕ) (cells : ℕ) (after : List ℕ) (stack' : List ℕ) (node byte cells' : ℕ) : Type 0 where
-  pub later : to < byte
-  pub then_on : (last : List ℕ) → InHand c t last at out to stack cells → Unwritten t last node after byte stack' cells'
+pub record Put (c : ℕ) (t : List ℕ) (at : ℕ) (out : Output) (stack : List ℕ) (cells : ℕ) (after : Output) (stack' : List ℕ) (node cells' : ℕ) : Type 0 where
+  pub same : after.bytes.ghost_name ≡ out.bytes.ghost_name
+  pub same_length : length after.bytes.now ≡ length out.bytes.now
+  pub later : out.at < after.at
+  pub then_on : (last : List ℕ) → InHand c t last at out stack cells → Unwritten t last node after stack' cells'

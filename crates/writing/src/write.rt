@@ -1,9 +1,9 @@
 // Table to text.
-ghost use Rattle.std.specs.Prelude.{◌≡◌, false, [], ◌∷◌, ◌<◌, length, get_or};
+ghost use Rattle.std.specs.Prelude.{◌≡◌, false, [], ◌∷◌, ◌≤◌, ◌<◌, length, get_or, IfSome, IfNone};
 ghost use Rattle.table.specs.Kinds.{kind_code};
 ghost use Rattle.writing.specs.Writing.{CountedProgram, TextLength, RoomForText, CellsForText, TextWritten};
-ghost use Rattle.writing.specs.Writer.{DigitCount, has_number, NodeBytes, tags, tag_bytes, numeral, head_bytes, BytesFit, Wrote, Pushed, Asked, Put};
-ghost use Rattle.writing.specs.Cells.{code};
+ghost use Rattle.writing.specs.Writer.{DigitCount, has_number, NodeBytes, tags, Pushed, Asked, Put};
+ghost use Rattle.writing.specs.Cells.{code, Popped};
 
 use table::kinds::Kind;
 use table::nodes::{Node, node_at};
@@ -60,48 +60,74 @@ pub fn text_length(t: &[u16], count: usize) -> usize
     total
 }
 
-/// Where writing has come to: the next node, the next byte of the output, and the cells on the stack.
-#[derive(Clone, Copy)]
-pub struct Progress {
-    pub node: usize,
-    pub byte: usize,
-    pub cells: usize,
+/// An output: the bytes of it, and how many are written.
+#[derive(Drop)]
+pub struct Output<'a> {
+    pub bytes: &'a mut [u8],
+    pub at: usize,
 }
 
-/// One byte.
-pub fn put(out: &mut [u8], to: usize, b: u8) -> usize
-    requires { BytesFit out.old to (b ∷ []) }
-    ensures { Wrote out.old out.new to result (b ∷ []) }
-{
-    out[to] = b;
-    to + 1
-}
+impl<'a> Output<'a> {
+    ghost use Rattle.table.specs.Kinds.{kind_code};
+    ghost use Rattle.writing.specs.Writer.{tag_bytes, numeral, head_bytes, Fits, Wrote};
 
-// An opening bracket and a tag.
-fn put_tag(out: &mut [u8], to: usize, tag: u8) -> usize
-    requires { BytesFit out.old to (tag_bytes tag) }
-    ensures { Wrote out.old out.new to result (tag_bytes tag) }
-{
-    let a = put(out, to, b'(');
-    let b = put(out, a, b'1');
-    let c = put(out, b, b':');
-    put(out, c, tag)
-}
-
-/// A number as an N: its length of one digit, a colon, its digits from the last to the first.
-pub fn put_number(out: &mut [u8], to: usize, n: u16) -> usize
-    requires { BytesFit out.old to (numeral n) }
-    ensures { Wrote out.old out.new to result (numeral n) }
-{
-    let d = digits(n);
-    let a = put(out, to, b'0' + d as u8);
-    let b = put(out, a, b':');
-    let mut left = n;
-    for i in (b..b + d).rev() {
-        out[i] = b'0' + (left % 10) as u8;
-        left /= 10;
+    /// One byte.
+    pub fn put(&mut self, b: u8)
+        requires { Fits self.old (b ∷ []) }
+        ensures { Wrote self.old self.new (b ∷ []) }
+    {
+        self.bytes[self.at] = b;
+        self.at += 1;
     }
-    b + d
+
+    /// Some bytes.
+    pub fn put_all(&mut self, b: &[u8])
+        requires { Fits self.old b.now }
+        ensures { Wrote self.old self.new b.now }
+    {
+        let end = self.at + b.len();
+        self.bytes[self.at..end].copy_from_slice(b);
+        self.at = end;
+    }
+
+    /// A number as an N: its length of one digit, a colon, its digits from the last to the first. No `Display`: the bytes go into lent memory.
+    pub fn put_number(&mut self, n: u16)
+        requires { Fits self.old (numeral n) }
+        ensures { Wrote self.old self.new (numeral n) }
+    {
+        let d = digits(n);
+        self.put(b'0' + d as u8);
+        self.put(b':');
+        let mut left = n;
+        let end = self.at + d;
+        for i in (self.at..end).rev() {
+            self.bytes[i] = b'0' + (left % 10) as u8;
+            left /= 10;
+        }
+        self.at = end;
+    }
+
+    // An opening bracket and a tag, the byte that stands in the text.
+    fn put_tag(&mut self, tag: u8)
+        requires { Fits self.old (tag_bytes tag) }
+        ensures { Wrote self.old self.new (tag_bytes tag) }
+    {
+        self.put(b'(');
+        self.put(b'1');
+        self.put(b':');
+        self.put(tag);
+    }
+
+    // What a term of the kind begins with: bracket, tag and, where it has one, its number.
+    fn put_head(&mut self, kind: Kind, number: u16)
+        requires { Fits self.old (head_bytes (kind_code kind) number) }
+        ensures { Wrote self.old self.new (head_bytes (kind_code kind) number) }
+    {
+        self.put_tag(tag_of(kind));
+        if has_number(kind) {
+            self.put_number(number);
+        }
+    }
 }
 
 // The tag of a term of the kind. A program has none.
@@ -119,19 +145,6 @@ fn tag_of(kind: Kind) -> u8
         Kind::Fresh => b'n',
         Kind::Guard => b'g',
         Kind::Unification => b'u',
-    }
-}
-
-// What a term of the kind begins with: bracket, tag and, where it has one, its number.
-fn put_head(out: &mut [u8], to: usize, kind: Kind, number: u16) -> usize
-    requires { BytesFit out.old to (head_bytes (kind_code kind) number) }
-    ensures { Wrote out.old out.new to result (head_bytes (kind_code kind) number) }
-{
-    let byte = put_tag(out, to, tag_of(kind));
-    if has_number(kind) {
-        put_number(out, byte, number)
-    } else {
-        byte
     }
 }
 
@@ -161,94 +174,95 @@ impl Piece {
     }
 }
 
-// One piece on top.
-fn push(stack: &mut [u16], cells: usize, piece: Piece) -> usize
-    requires { cells < length stack.old }
-    ensures { Pushed stack.old stack.new cells result (code piece) }
-{
-    stack[cells] = piece as u16;
-    cells + 1
+// The pieces that are still to be written, the next one on top, in a lent stack.
+#[derive(Drop)]
+struct Stack<'a> {
+    cells: &'a mut [u16],
+    top: usize,
 }
 
-// A term: what it begins with; its parts and its closing bracket go on the stack, the first part on top.
-fn put_term(
-    t: &[u16],
-    at: usize,
-    out: &mut [u8],
-    to: usize,
-    stack: &mut [u16],
-    cells: usize,
-) -> Progress
-    requires { Asked 0 t.now at out.old to stack.old cells }
-    ensures { Put 0 t.now at out.old to stack.old cells out.new stack.new result.node result.byte result.cells }
+impl<'a> Stack<'a> {
+    // One piece on top.
+    fn push(&mut self, piece: Piece)
+        requires { self.old.top < length self.old.cells.now }
+        ensures { Pushed self.old.cells.now self.new.cells.now self.old.top self.new.top (code piece) }
+    {
+        self.cells[self.top] = piece as u16;
+        self.top += 1;
+    }
+
+    // The piece on top, off the stack.
+    fn pop(&mut self) -> Option<Piece>
+        requires { self.old.top ≤ length self.old.cells.now }
+        ensures some { IfSome result (λ piece. Popped self.old.cells.now self.new.cells.now self.old.top self.new.top piece) }
+        ensures none { IfNone result (self.old.top ≡ 0) }
+    {
+        if self.top == 0 {
+            return None;
+        }
+        self.top -= 1;
+        Some(Piece::of(self.cells[self.top]))
+    }
+}
+
+// A term: what it begins with; its parts and its closing bracket go on the stack, the first part on top. Where the next node is.
+fn put_term(t: &[u16], at: usize, out: &mut Output<'_>, stack: &mut Stack<'_>) -> usize
+    requires { Asked 0 t.now at out.old stack.old.cells.now stack.old.top }
+    ensures { Put 0 t.now at out.old stack.old.cells.now stack.old.top out.new stack.new.cells.now result stack.new.top }
 {
     let n = node_at(t, at);
     let node = at + 1;
     // a term stands there, so its number is a kind's
     let Ok(kind) = Kind::try_from(n.kind) else {
-        return Progress {
-            node,
-            byte: to,
-            cells,
-        };
+        return node;
     };
-    let byte = put_head(out, to, kind, n.number);
+    out.put_head(kind, n.number);
     // variables and constructors have no part, the two abstractions a program, a fresh a term, the others two terms
     if kind.parts() == 0 {
-        let byte = put(out, byte, b')');
-        return Progress { node, byte, cells };
+        out.put(b')');
+        return node;
     }
-    let close = push(stack, cells, Piece::Close);
+    stack.push(Piece::Close);
     match kind {
         Kind::Abstraction | Kind::Allocated => {
-            let byte = put(out, byte, b'(');
-            let cells = push(stack, close, Piece::Rest);
-            Progress { node, byte, cells }
+            out.put(b'(');
+            stack.push(Piece::Rest);
         }
-        Kind::Fresh => {
-            let cells = push(stack, close, Piece::Term);
-            Progress { node, byte, cells }
-        }
+        Kind::Fresh => stack.push(Piece::Term),
         _ => {
-            let last = push(stack, close, Piece::Term);
-            let cells = push(stack, last, Piece::Term);
-            Progress { node, byte, cells }
+            stack.push(Piece::Term);
+            stack.push(Piece::Term);
         }
     }
+    node
 }
 
-// The piece that was on top.
+// The piece that was on top. Where the next node is.
 fn put_piece(
     t: &[u16],
     piece: Piece,
     at: usize,
-    out: &mut [u8],
-    to: usize,
-    stack: &mut [u16],
-    cells: usize,
-) -> Progress
-    requires { Asked (code piece) t.now at out.old to stack.old cells }
-    ensures { Put (code piece) t.now at out.old to stack.old cells out.new stack.new result.node result.byte result.cells }
+    out: &mut Output<'_>,
+    stack: &mut Stack<'_>,
+) -> usize
+    requires { Asked (code piece) t.now at out.old stack.old.cells.now stack.old.top }
+    ensures { Put (code piece) t.now at out.old stack.old.cells.now stack.old.top out.new stack.new.cells.now result stack.new.top }
 {
     match piece {
-        Piece::Term => put_term(t, at, out, to, stack, cells),
-        Piece::Close => Progress {
-            node: at,
-            byte: put(out, to, b')'),
-            cells,
-        },
+        Piece::Term => put_term(t, at, out, stack),
+        Piece::Close => {
+            out.put(b')');
+            at
+        }
         Piece::Rest => {
             let n = node_at(t, at);
             let next = at + 1;
             if n.is(Kind::Empty) {
-                return Progress {
-                    node: next,
-                    byte: put(out, to, b')'),
-                    cells,
-                };
+                out.put(b')');
+                return next;
             }
-            let rest = push(stack, cells, Piece::Rest);
-            put_term(t, next, out, to, stack, rest)
+            stack.push(Piece::Rest);
+            put_term(t, next, out, stack)
         }
     }
 }
@@ -259,17 +273,16 @@ pub fn put_text(t: &[u16], out: &mut [u8], stack: &mut [u16])
     requires cells_for_text { CellsForText t.now stack.old }
     ensures { TextWritten t.now out.old out.new }
 {
-    let byte = put(out, 0, b'(');
-    let cells = push(stack, 0, Piece::Rest);
-    let mut p = Progress {
-        node: 0,
-        byte,
-        cells,
+    let mut out = Output { bytes: out, at: 0 };
+    let mut stack = Stack {
+        cells: stack,
+        top: 0,
     };
+    out.put(b'(');
+    stack.push(Piece::Rest);
+    let mut node = 0;
     // a piece puts others on the stack: no range or list is gone through
-    while 0 < p.cells {
-        let top = p.cells - 1;
-        let piece = Piece::of(stack[top]);
-        p = put_piece(t, piece, p.node, out, p.byte, stack, top);
+    while let Some(piece) = stack.pop() {
+        node = put_piece(t, piece, node, &mut out, &mut stack);
     }
 }

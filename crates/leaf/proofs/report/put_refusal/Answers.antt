@@ -2,8 +2,8 @@
 use Rattle.leaf.proofs.Reporting.{refusal_number, refusal_closing, refusal_wrote}
 use Rattle.leaf.proofs.report.put_refusal.Goals as goal
 
-pub put_number-b-requires : goal.put_number-b-requires
-put_number-b-requires c = search refusal_number
+pub put_number-requires : goal.put_number-requires
+put_number-requires c = search refusal_number
 
 pub put-requires : goal.put-requires
 put-requires c = search refusal_closing

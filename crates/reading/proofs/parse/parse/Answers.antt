@@ -12,7 +12,7 @@ use Rattle.reading.proofs.parse.parse.Goals.{After-descend, In_ok-ok_or}
 
 -- where the program leads
 leads : (c : After-descend) → Follows c.args.limit c.args.s.now (bracket 40 ∷ members 0 ∷ []) (Some (c.start.result, nothing_met)) c.args.build.now [] (descent_of c.descend.result c.descend.new.self) c.descend.new.self.build.now × Ahead c.args.s.now 0 (descent_of c.descend.result c.descend.new.self)
-leads c = (rw (program_waits c.push-last.ensures c.push-top.ensures) at c.descend.ensures.follows, c.descend.ensures.ahead)
+leads c = let zeros : c.default.result ≡ nothing_met = search rules in (rw (program_waits c.push-last.ensures c.push-top.ensures, zeros) at c.descend.ensures.follows, c.descend.ensures.ahead)
 
 pub returns-in_err-ok_or : goal.returns-in_err-ok_or
 returns-in_err-ok_or c =
@@ -24,7 +24,8 @@ returns-in_err-ok_or c =
 read : (c : In_ok-ok_or) → Whole c.args.limit c.args.s.now c.descend.new.self.cursor c.descend.new.self.met c.descend.new.self.build.now
 read c =
     let some : ◌≡◌ {A = Option Unit} c.descend.result (Some c.in_ok-ok_or.field-0) = grind arith in
-    let follows = rw (program_waits c.push-last.ensures c.push-top.ensures) at c.descend.ensures.follows in
+    let zeros : c.default.result ≡ nothing_met = search rules in
+    let follows = rw (program_waits c.push-last.ensures c.push-top.ensures, zeros) at c.descend.ensures.follows in
     whole c.start.ensures (follows, c.descend.ensures.ahead) (ap (λ (r : Option Unit). descent_of r c.descend.new.self) some)
 
 pub returns-then-p-s : goal.returns-then-p-s

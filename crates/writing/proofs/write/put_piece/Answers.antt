@@ -12,11 +12,11 @@ overflow_add-next c = omega (arith, rest_inside c.in-Rest.is c.requires)
 pub returns-then-is : goal.returns-then-is
 returns-then-is c = end_put c.in-Rest.is c.node_at-n.ensures c.if-is.ensures c.put-then-is.ensures
 
-pub push-rest-requires : goal.push-rest-requires
-push-rest-requires c = rest_cell c.in-Rest.is c.node_at-n.ensures c.if-is.ensures c.requires
+pub push-requires : goal.push-requires
+push-requires c = rest_cell c.in-Rest.is c.node_at-n.ensures c.if-is.ensures c.requires
 
 pub put_term-requires-in-Rest : goal.put_term-requires-in-Rest
-put_term-requires-in-Rest c = member_asked c.in-Rest.is c.node_at-n.ensures c.if-is.ensures c.push-rest.ensures c.requires
+put_term-requires-in-Rest c = member_asked c.in-Rest.is c.node_at-n.ensures c.if-is.ensures c.push.ensures c.requires
 
 pub returns-else-is : goal.returns-else-is
-returns-else-is c = member_put c.in-Rest.is c.node_at-n.ensures c.if-is.ensures c.push-rest.ensures c.put_term-in-Rest.ensures
+returns-else-is c = member_put c.in-Rest.is c.node_at-n.ensures c.if-is.ensures c.push.ensures c.put_term-in-Rest.ensures

@@ -4,8 +4,8 @@ use lib.ListN.{length}
 use Rattle.writing.proofs.Pieces.{TextLeft}
 use Rattle.writing.proofs.write.put_text.Given as goal
 
-abbrev pub invariant-loop-p : goal.invariant-loop-p
-invariant-loop-p l = TextLeft l.t l.initial.out l.byte l.out (length l.initial.stack) l.stack l.p.node l.p.byte l.p.cells
+abbrev pub invariant-loop-piece : goal.invariant-loop-piece
+invariant-loop-piece l = TextLeft l.t l.initial.out l.out l.stack.cells.now l.node l.stack.top
 
-abbrev pub decreases-loop-p : goal.decreases-loop-p
-decreases-loop-p l = length l.out - l.p.byte
+abbrev pub decreases-loop-piece : goal.decreases-loop-piece
+decreases-loop-piece l = length l.out.bytes.now - l.out.at

@@ -1,9 +1,9 @@
--- `writing::write::put_head` meets its contract.
+-- `writing::write::Output::put_head` meets its contract.
 use Rattle.writing.proofs.Written.{tag_room, number_room, numbered_head, plain_head}
-use Rattle.writing.proofs.write.put_head.Goals as goal
+use Rattle.writing.proofs.write.Output.put_head.Goals as goal
 
-pub put_tag-byte-requires : goal.put_tag-byte-requires
-put_tag-byte-requires c = search tag_room
+pub put_tag-requires : goal.put_tag-requires
+put_tag-requires c = search tag_room
 
 pub put_number-requires : goal.put_number-requires
 put_number-requires c = search number_room
