@@ -58,6 +58,7 @@ impl From<Result<usize, Refusal>> for Count {
     fn from(x: Result<usize, Refusal>) -> Count {
         match x {
             Ok(count) => Count { count, refusal: 0 },
+            // one zero, so no `Default`
             Err(r) => Count {
                 count: 0,
                 refusal: r.number(),
@@ -126,6 +127,7 @@ impl From<Result<Standing, Refusal>> for Stand {
                 standing: standing.code(),
                 refusal: 0,
             },
+            // one zero, so no `Default`
             Err(r) => Stand {
                 standing: 0,
                 refusal: r.number(),

@@ -13,7 +13,7 @@ use writing::write::Output;
 
 const STEP_LIMIT: u32 = 10000;
 
-// The report of a refusal.
+// The report of a refusal. No `Display`: the bytes go into lent memory.
 fn put_refusal(r: Refusal, out: &mut Output<'_>)
     requires { Blank out.old }
     ensures { Wrote out.old out.new (refusal_report r) }
@@ -23,7 +23,7 @@ fn put_refusal(r: Refusal, out: &mut Output<'_>)
     out.put(b')');
 }
 
-// The atom of a reason.
+// The atom of a reason, into lent memory too.
 fn put_reason(reason: Reason, out: &mut Output<'_>)
     requires { Fits out.old (reason_atom reason) }
     ensures { Wrote out.old out.new (reason_atom reason) }

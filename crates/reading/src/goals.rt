@@ -47,7 +47,7 @@ pub fn push(goals: &mut [u8], top: usize, goal: u8) -> usize
     next
 }
 
-/// What a tag announces, up to the closing bracket.
+/// What a tag announces, up to the closing bracket. A tag is a byte of the text, and may be any.
 pub fn announced(tag: u8, w: Waiting, goals: &mut [u8]) -> Waiting
     requires { (3 ≤ w.top) × (w.top ≤ length goals.old) × (w.binders < length goals.old) }
     ensures { Announces tag w goals.old result goals.new }
