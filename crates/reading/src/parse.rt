@@ -12,12 +12,12 @@ use csexp::Cursor;
 use table::kinds::Kind;
 use table::nodes::put_node;
 
-// What a descent has met: the nodes, and whether an N was bad or an index without its binder. Two flags: both may hold, and the nodes are counted in any case.
+/// What a descent has met: the nodes, and whether an N was bad or an index without its binder. Two flags: both may hold, and the nodes are counted in any case.
 #[derive(Clone, Copy, Default)]
-struct Met {
-    nodes: usize,
-    bad: bool,
-    loose: bool,
+pub struct Met {
+    pub nodes: usize,
+    pub bad: bool,
+    pub loose: bool,
 }
 
 // A parse under way: the text and the node limit; the reading place, what was met and what waits; and the tables that are lent: for the nodes, and

@@ -42,7 +42,11 @@ pub fn place_of(t: &[u16], column: &[u16], k: usize) -> Option<usize>
         let start = thread_behind(t, at)?;
         at = start + size_at(column, start);
     }
-    thread_behind(t, at)
+    // both answers written out: must-fail edits exchange the one or the other
+    let Some(start) = thread_behind(t, at) else {
+        return None; // there are k threads
+    };
+    Some(start)
 }
 
 /// Where the thread's own part of the table is, its term's nodes without the alternative node. Empty exactly when the standing call refuses.

@@ -206,6 +206,8 @@ impl<'a> Stack<'a> {
 }
 
 // A term: what it begins with; its parts and its closing bracket go on the stack, the first part on top. Where the next node is.
+// Inlined at both calls: so the places in the output and on the stack are numbers at hand and not in memory.
+#[inline(always)]
 fn put_term(t: &[u16], at: usize, out: &mut Output<'_>, stack: &mut Stack<'_>) -> usize
     requires { Asked 0 t.now at out.old stack.old.cells.now stack.old.top }
     ensures { Put 0 t.now at out.old stack.old.cells.now stack.old.top out.new stack.new.cells.now result stack.new.top }
@@ -230,7 +232,7 @@ fn put_term(t: &[u16], at: usize, out: &mut Output<'_>, stack: &mut Stack<'_>) -
         }
         Kind::Fresh => stack.push(Piece::Term),
         _ => {
-            stack.push(Piece::Term);
+            stack.push(Piece::Term); // the second part
             stack.push(Piece::Term);
         }
     }

@@ -10,5 +10,8 @@ returns-in_err-start c = rw c.from_residual.ensures (none_left c.loop.invariant 
 pub size_at-requires : goal.size_at-requires
 size_at-requires c = sized c.loop.invariant (sym c.in_ok-start.ensures)
 
+pub returns-in_default : goal.returns-in_default
+returns-in_default c = none_left c.loop.invariant (sym c.in_default.ensures) (omega arith)
+
 pub returns : goal.returns
-returns c = placed c.loop.invariant (omega arith) c.thread_behind-2.ensures
+returns c = placed c.loop.invariant (omega arith) c.in-Some.ensures
