@@ -5,6 +5,7 @@ use mathlib.Core.Bool.{Bool, true, false, cond, ◌&&◌, false≢true, true≢f
 use mathlib.Core.List.{List, [], ◌∷◌, ◌++◌, map, append_assoc, append-nil}
 use Prim.Native.Nat.{ℕ, suc, zero, ◌+◌, ◌-◌, ◌*◌, ◌≤◌, ◌<◌}
 use native.Mathlib.Numerals.{add-one}
+use native.Mathlib.Nat.{add-zero}
 use native.Mathlib.Omega.{arith}
 use borrow.Author.Tests.{ltb-true, eqb-true, lt-ltb, ne_eqb, leb-false, lt-leb}
 use lib.Dec.{eqb, ltb, leb}
@@ -22,7 +23,7 @@ use Rattle.table.specs.Kinds.{kind_code}
 use Rattle.table.specs.declared.kinds.Kind.{Kind}
 use Rattle.table.specs.declared.kinds.Kind.TheVariants.{Empty, Alternative, Bound, Free, Constructor, Abstraction, Allocated, Application, Fresh, Guard, Unification}
 use Rattle.table.specs.Nodes.{kind_at, number_at, NodeIs, parts}
-use Rattle.table.specs.Pending.{Want, want, kept, tests, may, last_part, wants, PartsPut}
+use Rattle.table.specs.Pending.{Want, want, kept, tests, may, last_sort, binds, last_part, wants, PartsPut}
 use Rattle.table.proofs.Trees.{here_node}
 use Rattle.table.proofs.Spans.{two_parts}
 
@@ -300,7 +301,7 @@ term_kinds Fresh f g = omega arith
 term_kinds Guard f g = omega arith
 term_kinds Unification f g = omega arith
 
--- the last part, by the arms of the code's match
+-- the last part, kind by kind
 module _ (within : Bool) (d k : ℕ) where
   pub last_alt : k ≡ 1 → want program d ≡ last_part within d k
   unfolding last_part
@@ -335,6 +336,24 @@ last_other w d Constructor f g h i = refl
 last_other w d Application f g h i = refl
 last_other w d Guard f g h i = refl
 last_other w d Unification f g h i = refl
+
+-- the last part as the code makes it: of an allocated abstraction where only its own binder counts, and in every other case
+pub last_closed : (within : Bool) (d : ℕ) (k : Kind) → k ≡ Allocated → within ≡ true → want (last_sort (kind_code k)) 1 ≡ last_part within d (kind_code k)
+last_closed w d k e f = rw e (last_inside w d 6 refl f)
+
+pub last_made : (within : Bool) (d : ℕ) (k : Kind) → (k ≡ Allocated → within ≡ true → ⊥) → want (last_sort (kind_code k)) (d + binds (kind_code k)) ≡ last_part within d (kind_code k)
+last_made true d Allocated h = absurd (h refl refl)
+last_made false d Allocated h = last_stored false d 6 refl refl
+last_made w d Alternative h = rw add-zero (last_alt w d 1 refl)
+last_made w d Abstraction h = last_code w d 5 refl
+last_made w d Fresh h = last_fresh w d 8 refl
+last_made w d Empty h = rw add-zero (last_other w d Empty (λ e. impossible (cc)) (λ e. impossible (cc)) (λ e. impossible (cc)) (λ e. impossible (cc)))
+last_made w d Bound h = rw add-zero (last_other w d Bound (λ e. impossible (cc)) (λ e. impossible (cc)) (λ e. impossible (cc)) (λ e. impossible (cc)))
+last_made w d Free h = rw add-zero (last_other w d Free (λ e. impossible (cc)) (λ e. impossible (cc)) (λ e. impossible (cc)) (λ e. impossible (cc)))
+last_made w d Constructor h = rw add-zero (last_other w d Constructor (λ e. impossible (cc)) (λ e. impossible (cc)) (λ e. impossible (cc)) (λ e. impossible (cc)))
+last_made w d Application h = rw add-zero (last_other w d Application (λ e. impossible (cc)) (λ e. impossible (cc)) (λ e. impossible (cc)) (λ e. impossible (cc)))
+last_made w d Guard h = rw add-zero (last_other w d Guard (λ e. impossible (cc)) (λ e. impossible (cc)) (λ e. impossible (cc)) (λ e. impossible (cc)))
+last_made w d Unification h = rw add-zero (last_other w d Unification (λ e. impossible (cc)) (λ e. impossible (cc)) (λ e. impossible (cc)) (λ e. impossible (cc)))
 
 two_written : (n : ℕ) (l : List ℕ) (a b : ℕ) → suc (suc n) ≤ length l → drop n (set (set l (suc n) a) n b) ≡ b ∷ a ∷ drop (suc (suc n)) l
 two_written zero [] a b h = absurd (omega arith)

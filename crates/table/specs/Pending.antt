@@ -33,6 +33,14 @@ tests n term m =
 unfoldable pub may : ℕ → Sort → ℕ → ℕ → Bool
 may n s k m = get_or (tests n s m) k false
 
+-- the sort of the last part of a node of the kind k: a program's for an alternative and the two abstractions, else a term's
+abbrev pub last_sort : ℕ → Sort
+last_sort k = get_or (term ∷ program ∷ term ∷ term ∷ term ∷ program ∷ program ∷ []) k term
+
+-- how many binders a node of the kind k is: 1 for the two abstractions and a fresh node, else none
+abbrev pub binds : ℕ → ℕ
+binds k = get_or (0 ∷ 0 ∷ 0 ∷ 0 ∷ 0 ∷ 1 ∷ 1 ∷ 0 ∷ 1 ∷ []) k 0
+
 -- the last part of a node of the kind k, with d binders around it; a term with as many where that is no other
 unfoldable pub last_part : Bool → ℕ → ℕ → Want
 last_part within d k =

@@ -3,7 +3,7 @@
 ghost use Rattle.std.specs.Prelude.{◌≡◌, ◌+◌, ◌≤◌, ◌<◌, length};
 ghost use Rattle.table.specs.Checks.{checked_number, unbound, within, Walks};
 ghost use Rattle.table.specs.Kinds.{kind_code};
-ghost use Rattle.table.specs.Pending.{want, kept, sort_of, may, last_part, PartsPut};
+ghost use Rattle.table.specs.Pending.{want, kept, sort_of, may, last_sort, binds, last_part, PartsPut};
 
 use crate::kinds::Kind;
 use crate::nodes::node_at;
@@ -28,11 +28,11 @@ impl Scope {
     }
 }
 
-// What must stand at a node.
+// What must stand at a node; its number is what a cell adds for it.
 #[derive(Clone, Copy)]
 enum Sort {
-    Program,
-    Term,
+    Term = 0,
+    Program = 1,
 }
 
 // A tree that is still to stand, and how many binders are around it.
@@ -62,10 +62,7 @@ impl Wanted {
         requires { self.binders < 32768 }
         ensures { kept result ≡ want (sort_of self.sort) self.binders }
     {
-        match self.sort {
-            Sort::Program => 2 * self.binders + 1,
-            Sort::Term => 2 * self.binders,
-        }
+        2 * self.binders + self.sort as u16
     }
 }
 
@@ -88,23 +85,39 @@ fn may_stand(kind: Kind, m: u16, sort: Sort, limit: usize) -> bool
     }
 }
 
+// The sort of the last part of a node of the kind; a term's where the node has no part.
+fn last_sort(kind: Kind) -> Sort
+    ensures { sort_of result ≡ last_sort (kind_code kind) }
+{
+    match kind {
+        Kind::Alternative | Kind::Abstraction | Kind::Allocated => Sort::Program,
+        _ => Sort::Term,
+    }
+}
+
+// How many binders a node of the kind is: 1 or none.
+fn binds(kind: Kind) -> u16
+    ensures { result ≡ binds (kind_code kind) }
+{
+    u16::from(matches!(kind, Kind::Abstraction | Kind::Allocated | Kind::Fresh))
+}
+
 // The last part of a node of the kind, with d binders around it; a term with as many where that is no other.
+// The sort and the binders are asked for apart, so that each question is a test of bits of a constant. One match for both would be a jump through a table,
+// which a processor guesses wrong where the kinds of nodes change without order.
 fn last_part(kind: Kind, d: u16, scope: Scope) -> Wanted
     requires { d < 32767 }
     ensures part { want (sort_of result.sort) result.binders ≡ last_part (within scope) d (kind_code kind) }
     ensures binders_bound { result.binders < 32768 }
 {
-    let (sort, binders) = match kind {
-        Kind::Alternative => (Sort::Program, d),
-        Kind::Abstraction => (Sort::Program, d + 1),
-        Kind::Allocated => match scope {
-            Scope::Program => (Sort::Program, d + 1),
-            Scope::Closures => (Sort::Program, 1),
-        },
-        Kind::Fresh => (Sort::Term, d + 1),
-        _ => (Sort::Term, d),
+    let binders = match (kind, scope) {
+        (Kind::Allocated, Scope::Closures) => 1,
+        _ => d + binds(kind),
     };
-    Wanted { sort, binders }
+    Wanted {
+        sort: last_sort(kind),
+        binders,
+    }
 }
 
 // Puts the parts of a node of the kind, with d binders around it, on top; gives the new top. A place below the top is free: both are written.

@@ -1,24 +1,13 @@
--- `table::walk::last_part` meets its contract, arm by arm.
-use mathlib.Core.Path.{ap}
+-- `table::walk::last_part` meets its contract.
+use mathlib.Core.Path.{ap, sym, ◌∙◌}
+use mathlib.Core.Bool.{false≢true}
 use Rattle.table.specs.Checks.{within}
-use Rattle.table.specs.Kinds.{kind_code}
-use Rattle.table.proofs.Scans.{last_alt, last_code, last_inside, last_stored, last_fresh, last_other}
+use Rattle.table.proofs.Scans.{last_closed, last_made}
 use Rattle.table.proofs.walk.last_part.Goals as goal
+use Rattle.table.proofs.walk.last_part.Goals.{in-Allocated-Closures, in_default, in_default-via-in-Allocated+in_default, in_default-via-in_default}
 
-pub returns-in-Alternative-clause-part : goal.returns-in-Alternative-clause-part
-returns-in-Alternative-clause-part c = last_alt _ _ _ (ap kind_code c.in-Alternative.is)
-
-pub returns-in-Abstraction-clause-part : goal.returns-in-Abstraction-clause-part
-returns-in-Abstraction-clause-part c = last_code _ _ _ (ap kind_code c.in-Abstraction.is)
-
-pub returns-in-Program-clause-part : goal.returns-in-Program-clause-part
-returns-in-Program-clause-part c = last_stored _ _ _ (ap kind_code c.in-Allocated.is) (ap within c.in-Program.is)
-
-pub returns-in-Closures-clause-part : goal.returns-in-Closures-clause-part
-returns-in-Closures-clause-part c = last_inside _ _ _ (ap kind_code c.in-Allocated.is) (ap within c.in-Closures.is)
-
-pub returns-in-Fresh-clause-part : goal.returns-in-Fresh-clause-part
-returns-in-Fresh-clause-part c = last_fresh _ _ _ (ap kind_code c.in-Fresh.is)
-
-pub returns-in_default-clause-part : goal.returns-in_default-clause-part
-returns-in_default-clause-part c = last_other _ _ _ c.in_default.not-Alternative c.in_default.not-Abstraction c.in_default.not-Allocated c.in_default.not-Fresh
+pub returns-clause-part : goal.returns-clause-part
+returns-clause-part c = rw c.last_sort.ensures (elim c.match-kind.branch [
+  | in-Allocated-Closures w ↦ rw w.binders-is (last_closed _ _ _ w.in-Allocated-Closures.is-0 (ap within w.in-Allocated-Closures.is-1))
+  | in_default w ↦ rw (w.binders-is, w.binds.ensures) (last_made _ _ _ (elim w.in_default.branch [ in_default-via-in-Allocated+in_default v ↦ λ e f. false≢true (sym (ap within v.in_default.is-1) ∙ f) | in_default-via-in_default v ↦ λ e f. v.in_default.not-Allocated-0 e ]))
+])
